@@ -1,0 +1,4 @@
+pub mod Addresses
+pub mod Bytes
+pub mod Codes
+pub mod Refusals
