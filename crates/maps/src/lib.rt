@@ -1,0 +1,7 @@
+// Property maps of topics: read from and written to CBOR (RFC 8949).
+mod head;
+mod properties;
+
+pub use head::Head;
+pub use properties::Key;
+pub use properties::Properties;
