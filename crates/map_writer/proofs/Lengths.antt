@@ -79,3 +79,10 @@ length-from p a b c d e f g h ha hb hc hd he hf hg hh =
 pub some-mapped : {X Y : Type 0} (f : X → Y) (o : Option X) → isSome o ≡ isSome (mapped f o)
 some-mapped f None = refl
 some-mapped f (Some x) = refl
+
+-- what a length tells that is given only where it fits 64 bits
+pub none-from-fits : (n : ℕ) → None ≡ cond (ltb n (2 ^ 64)) (Some n) None → 2 ^ 64 ≤ n
+none-from-fits n e = grind (arith, tells)
+
+pub some-from-fits : (n k : ℕ) → Some k ≡ cond (ltb n (2 ^ 64)) (Some n) None → k ≡ n
+some-from-fits n k e = grind (arith, tells)

@@ -2,6 +2,7 @@
 mod buffer;
 mod entry;
 mod len;
-mod write;
+mod writer;
 
 pub use len::written_len;
+pub use writer::write;

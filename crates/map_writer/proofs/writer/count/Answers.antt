@@ -4,7 +4,7 @@ use denote.Ref.{now}
 use Prim.Native.Nat.{ℕ, _+_}
 use Rattle.maps.specs.Maps.{meant, given, one-if}
 use Rattle.map_writer.proofs.Lengths.{given-le, some-mapped}
-use Rattle.map_writer.proofs.write.count.Needs as need
+use Rattle.map_writer.proofs.writer.count.Needs as need
 
 pub returns : need.returns
 returns c =
