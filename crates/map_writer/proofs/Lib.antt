@@ -1,3 +1,4 @@
 pub mod Buffers
 pub mod Heads
 pub mod Lengths
+pub mod Reading
