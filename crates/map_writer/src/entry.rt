@@ -4,6 +4,7 @@ ghost use Prim.Native.Nat.{_+_, _≤_};
 ghost use lib.ListN.{length};
 ghost use Rattle.std.specs.Options.{mapped};
 ghost use Rattle.map_writer.specs.Buffers.{overlaid};
+ghost use Rattle.maps.specs.Laws.{Num, Text};
 ghost use Rattle.maps.specs.Maps.{key-number, text-entry, number-entry, date-entry};
 use crate::buffer::put_bytes;
 use crate::buffer::put_head;
@@ -11,8 +12,11 @@ use maps::Key;
 
 // Major types of data items.
 pub(crate) const UNSIGNED: u8 = 0;
+
 pub(crate) const TEXT: u8 = 3;
+
 pub(crate) const MAP: u8 = 5;
+
 pub(crate) const TAG: u8 = 6;
 
 // The tag of a number of seconds since 1970.
@@ -38,6 +42,7 @@ pub(crate) fn put_text(out: &mut [u8], at: usize, key: Key, text: Option<&[u8]>)
     requires { ⌜ at + length (text-entry key (mapped now text)) ≤ length (now out) ⌝ }
     ensures answer { λ r. ⌜ r ≡ at + length (text-entry key (mapped now (text .entry))) ⌝ }
     ensures buffer { λ _. ⌜ now (out .exit) ≡ overlaid (now (out .entry)) at (text-entry key (mapped now (text .entry))) ⌝ }
+    ensures value { λ _. ⌜ Text (mapped now (text .entry)) ⌝ }
 {
     match text {
         None => at,
@@ -54,6 +59,7 @@ pub(crate) fn put_number(out: &mut [u8], at: usize, key: Key, value: Option<u64>
     requires { ⌜ at + length (number-entry key value) ≤ length (now out) ⌝ }
     ensures answer { λ r. ⌜ r ≡ at + length (number-entry key value) ⌝ }
     ensures buffer { λ _. ⌜ now (out .exit) ≡ overlaid (now (out .entry)) at (number-entry key value) ⌝ }
+    ensures value { λ _. ⌜ Num value ⌝ }
 {
     match value {
         None => at,
@@ -69,6 +75,7 @@ pub(crate) fn put_date(out: &mut [u8], at: usize, key: Key, value: Option<u64>) 
     requires { ⌜ at + length (date-entry key value) ≤ length (now out) ⌝ }
     ensures answer { λ r. ⌜ r ≡ at + length (date-entry key value) ⌝ }
     ensures buffer { λ _. ⌜ now (out .exit) ≡ overlaid (now (out .entry)) at (date-entry key value) ⌝ }
+    ensures value { λ _. ⌜ Num value ⌝ }
 {
     match value {
         None => at,

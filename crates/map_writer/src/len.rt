@@ -65,8 +65,13 @@ fn date_len(value: Option<u64>) -> u128
 pub fn written_len(p: &Properties<'_>) -> Option<usize>
     ensures answer { λ r. ⌜ r ≡ cond (ltb (length (written (meant (now (p .entry))))) (2 ^ 64)) (Some (length (written (meant (now (p .entry)))))) None ⌝ }
 {
-    let texts = text_len(p.name) + text_len(p.data_address) + text_len(p.resource_type) + text_len(p.topic_type);
-    let numbers = number_len(p.content_format) + number_len(p.max_subscribers) + number_len(p.observer_check);
+    let texts = text_len(p.name)
+        + text_len(p.data_address)
+        + text_len(p.resource_type)
+        + text_len(p.topic_type);
+    let numbers = number_len(p.content_format)
+        + number_len(p.max_subscribers)
+        + number_len(p.observer_check);
     let len = 1 + texts + numbers + date_len(p.expiration);
     if len <= usize::MAX as u128 {
         Some(len as usize)

@@ -1,12 +1,14 @@
 // Writing a map.
-ghost use mathlib.Core.Bool.{cond};
 ghost use mathlib.Core.List.{_++_};
 ghost use mathlib.Core.Path.{_≡_};
 ghost use Prim.Native.Nat.{_≤_};
-ghost use lib.Dec.{leb};
-ghost use lib.ListN.{length, drop};
-ghost use Rattle.std.specs.declared.option.Option.the-variants.{Some, None};
-ghost use Rattle.maps.specs.Maps.{one-if, given, meant, written};
+ghost use lib.ListN.{length, drop, take};
+ghost use Rattle.std.specs.Options.{Cases as BySome};
+ghost use Rattle.std.specs.declared.result.Result.the-variants.{Ok};
+ghost use Rattle.map_writer.specs.Buffers.{len-if-fits, placed-if-fits};
+ghost use Rattle.map_writer.specs.Laws.{Laws};
+ghost use Rattle.maps.specs.Laws.{Carried};
+ghost use Rattle.maps.specs.Maps.{one-if, given, meant, written, read-map};
 use crate::buffer::put_head;
 use crate::entry::MAP;
 use crate::entry::put_date;
@@ -43,6 +45,7 @@ fn put_map(p: &Properties<'_>, out: &mut [u8]) -> usize
     requires { ⌜ length (written (meant (now p))) ≤ length (now out) ⌝ }
     ensures answer { λ r. ⌜ r ≡ length (written (meant (now (p .entry)))) ⌝ }
     ensures buffer { λ _. ⌜ now (out .exit) ≡ written (meant (now (p .entry))) ++ drop (length (written (meant (now (p .entry))))) (now (out .entry)) ⌝ }
+    ensures value { λ _. ⌜ Carried (meant (now (p .entry))) ⌝ }
 {
     let at = put_head(out, 0, MAP, count(p));
     let at = put_text(out, at, Key::Name, p.name);
@@ -58,8 +61,10 @@ fn put_map(p: &Properties<'_>, out: &mut [u8]) -> usize
 // Writes the one form of the properties to the front of the buffer and gives its length;
 // where it is longer than the buffer there is none, and the buffer stays as it was.
 pub fn write(p: &Properties<'_>, out: &mut [u8]) -> Option<usize>
-    ensures answer { λ r. ⌜ r ≡ cond (leb (length (written (meant (now (p .entry))))) (length (now (out .entry)))) (Some (length (written (meant (now (p .entry)))))) None ⌝ }
-    ensures buffer { λ _. ⌜ now (out .exit) ≡ cond (leb (length (written (meant (now (p .entry))))) (length (now (out .entry)))) (written (meant (now (p .entry))) ++ drop (length (written (meant (now (p .entry))))) (now (out .entry))) (now (out .entry)) ⌝ }
+    ensures answer { λ r. ⌜ r ≡ len-if-fits (written (meant (now (p .entry)))) (now (out .entry)) ⌝ }
+    ensures buffer { λ _. ⌜ now (out .exit) ≡ placed-if-fits (written (meant (now (p .entry)))) (now (out .entry)) ⌝ }
+    ensures reads_back { λ r. ⌜ BySome r (Unit {0}) (λ n. read-map (take n (now (out .exit))) ≡ Ok (meant (now (p .entry)))) ⌝ }
+    ensures laws { λ _. ⌜ Laws ⌝ }
 {
     let len = written_len(p)?;
     if len <= out.len() {

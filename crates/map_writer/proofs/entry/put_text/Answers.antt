@@ -6,6 +6,7 @@ use denote.Ref.{now}
 use lib.ListN.{length, length-append}
 use Rattle.std.specs.Options.{mapped}
 use Rattle.maps.specs.Heads.{head-bytes}
+use Rattle.maps.specs.Laws.{Text}
 use Rattle.maps.specs.Maps.{key-number, text-entry}
 use Rattle.map_writer.proofs.Buffers.{Put, put-then, put-nothing, put-as}
 use Rattle.map_writer.proofs.entry.put_text.Needs as need
@@ -13,7 +14,7 @@ use Rattle.map_writer.proofs.entry.put_text.Needs as need
 pub returns-in-None : need.returns-in-None
 returns-in-None c =
     let put = put-nothing (c .args .out .now) (c .args .at) (text-entry (c .args .key) (mapped now (c .args .text))) (ap (λ t. text-entry (c .args .key) (mapped now t)) (c .in-None .is)) in
-    record { answer = put .ends; buffer = put .wrote }
+    record { answer = put .ends; buffer = put .wrote; value = subst (λ t. Text (mapped now t)) (sym (c .in-None .is)) tt }
 
 pub returns-in-Some : need.returns-in-Some
 returns-in-Some c =
@@ -31,4 +32,4 @@ returns-in-Some c =
     let third : Put (c .put-head-start .last .out) (c .put-head-start .result) text (c .put-bytes .last .out) (c .put-bytes .result) =
     record { wrote = c .put-bytes .ensures .buffer; ends = c .put-bytes .ensures .answer } in
     let put = put-as is (put-then first (put-then second third (omega arith)) (omega arith)) in
-    record { answer = put .ends; buffer = put .wrote }
+    record { answer = put .ends; buffer = put .wrote; value = subst (λ t. Text (mapped now t)) (sym (c .in-Some .is)) (omega arith) }

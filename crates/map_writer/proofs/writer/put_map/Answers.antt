@@ -70,4 +70,17 @@ returns c =
     let check : Put (c .put-number-at-2 .last .out) (c .put-number-at-2 .result) (number-entry ObserverCheck (p .observer-check)) (c .put-number .last .out) (c .put-number .result) = record { wrote = c .put-number .ensures .buffer; ends = c .put-number .ensures .answer } in
     let is : written p ≡ head-bytes 5 (c .count .result) ++ written-entries p = ap (λ k. head-bytes 5 k ++ written-entries p) (sym (c .count .ensures .answer)) in
     let put = put-as is (put-then head (put-then name (put-then address (put-then resource (put-then format (put-then topic (put-then date (put-then most check (omega arith)) (omega arith)) (omega arith)) (omega arith)) (omega arith)) (omega arith)) (omega arith)) (omega arith)) in
-    record { answer = put .ends ∙ omega arith; buffer = put .wrote ∙ overlaid-front (c .args .out .now) (written p) }
+    record {
+      answer = put .ends ∙ omega arith;
+      buffer = put .wrote ∙ overlaid-front (c .args .out .now) (written p);
+      value = record {
+        name = c .put-text-at .ensures .value;
+        data-address = c .put-text-at-2 .ensures .value;
+        resource-type = c .put-text-at-3 .ensures .value;
+        content-format = c .put-number-at .ensures .value;
+        topic-type = c .put-text-at-4 .ensures .value;
+        expiration = c .put-date-at .ensures .value;
+        max-subscribers = c .put-number-at-2 .ensures .value;
+        observer-check = c .put-number .ensures .value;
+      };
+    }

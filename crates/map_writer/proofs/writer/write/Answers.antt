@@ -1,15 +1,24 @@
-use mathlib.Core.Path.{_≡_, refl, sym, ap, _∙_}
+use mathlib.Core.Path.{_≡_, refl, sym, ap, subst, _∙_}
 use mathlib.Core.Bool.{false, true}
 use mathlib.Core.List.{_++_}
 use native.Mathlib.Omega.{arith}
 use Prim.Native.Nat.{_^_, _≤_, _<_}
 use lib.Dec.{leb}
-use lib.ListN.{length, drop}
+use lib.ListN.{length, take, drop}
 use Rattle.std.specs.declared.option.Option.the-variants.{Some, None}
+use Rattle.std.specs.declared.result.Result.the-variants.{Ok}
 use Rattle.std.proofs.shelf.Tests.{cond-true, cond-false, le-leb, lt-leb}
-use Rattle.maps.specs.Maps.{meant, written}
+use Rattle.std.proofs.shelf.Lists.{take-at}
+use Rattle.std.specs.Options.{Cases}
+use Rattle.maps.specs.Maps.{meant, written, read-map}
+use Rattle.map_writer.specs.Laws.{Laws}
 use Rattle.map_writer.proofs.Lengths.{none-from-fits, some-from-fits}
+use Rattle.map_writer.proofs.Largest.{largest}
+use Rattle.map_writer.proofs.Reading.{reads-back, one-form}
 use Rattle.map_writer.proofs.writer.write.Needs as need
+
+laws : Laws
+laws = record { reads-back = reads-back; one-form = one-form; largest = largest }
 
 pub returns-in-Break-len : need.returns-in-Break-len
 returns-in-Break-len c =
@@ -20,6 +29,8 @@ returns-in-Break-len c =
     record {
       answer = c .from-residual .ensures ∙ sym (cond-false (leb (length bytes) (length out)) (Some (length bytes)) None long);
       buffer = sym (cond-false (leb (length bytes) (length out)) (bytes ++ drop (length bytes) out) out long);
+      reads-back = subst (λ r. Cases r (Unit {0}) (λ n. read-map (take n out) ≡ Ok (meant (c .args .p .now)))) (sym (c .from-residual .ensures)) tt;
+      laws = laws;
     }
 
 pub returns-then-len-out : need.returns-then-len-out
@@ -31,6 +42,12 @@ returns-then-len-out c =
     record {
       answer = ap Some (c .put-map .ensures .answer) ∙ sym (cond-true (leb (length bytes) (length out)) (Some (length bytes)) None fits);
       buffer = c .put-map .ensures .buffer ∙ sym (cond-true (leb (length bytes) (length out)) (bytes ++ drop (length bytes) out) out fits);
+      reads-back =
+          ap (λ n. read-map (take n (c .put-map .last .out))) (c .put-map .ensures .answer)
+          ∙ ap (λ l. read-map (take (length bytes) l)) (c .put-map .ensures .buffer)
+          ∙ ap read-map (take-at bytes (drop (length bytes) out) (length bytes) refl)
+          ∙ reads-back (meant (c .args .p .now)) (c .put-map .ensures .value);
+      laws = laws;
     }
 
 pub returns-else-len-out : need.returns-else-len-out
@@ -42,4 +59,6 @@ returns-else-len-out c =
     record {
       answer = sym (cond-false (leb (length bytes) (length out)) (Some (length bytes)) None long);
       buffer = sym (cond-false (leb (length bytes) (length out)) (bytes ++ drop (length bytes) out) out long);
+      reads-back = tt;
+      laws = laws;
     }
