@@ -10,7 +10,9 @@ use Rattle.std.specs.declared.result.Result.the-variants.{Ok, Err}
 use Rattle.protocol.specs.declared.fault.Fault.{Fault}
 use Rattle.protocol.specs.declared.fault.Fault.the-variants.{Ends}
 use Rattle.maps.specs.declared.reader.Reader.{Reader}
+use Rattle.maps.specs.declared.properties.Properties.{Properties}
 use Rattle.maps.specs.Heads.{Got}
+use Rattle.maps.specs.Maps.{Props, meant}
 
 -- the bytes that are still to be read
 abbrev pub left : Reader → List ℕ
@@ -33,3 +35,8 @@ itself x = x
 -- the next n bytes, unless there are fewer
 abbrev pub taken : ℕ → List ℕ → Result (Got (List ℕ)) Fault
 taken n bs = cond (leb n (length bs)) (Ok (record { item = take n bs; rest = drop n bs })) (Err Ends)
+
+-- what the properties read mean, or the fault
+abbrev pub told : Result Properties Fault → Result Props Fault
+told (Ok p) = Ok (meant p)
+told (Err e) = Err e

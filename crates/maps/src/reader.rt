@@ -1,9 +1,8 @@
 // A reader of data items: the bytes that are still to be read, from which heads and texts are taken in turn.
-ghost use Prim.Native.Nat.{ℕ, _≤_};
-ghost use mathlib.Core.Bool.{cond};
+ghost use Prim.Native.Nat.{_≤_};
 ghost use mathlib.Core.Path.{_≡_};
-ghost use lib.Dec.{eqb, leb};
-ghost use lib.ListN.{length, take, drop};
+ghost use lib.Dec.{eqb};
+ghost use lib.ListN.{length};
 ghost use Rattle.std.specs.Results.{Cases};
 ghost use Rattle.protocol.specs.Bytes.{be-number};
 ghost use Rattle.maps.specs.Heads.{head-of, long-head};
@@ -50,7 +49,13 @@ fn head_of(bytes: &[u8]) -> Result<(Head, &[u8]), Fault>
     let major = *first / 32;
     let information = *first % 32;
     match information {
-        0..=23 => Ok((Head { major, argument: information as u64 }, rest)),
+        0..=23 => Ok((
+            Head {
+                major,
+                argument: information as u64,
+            },
+            rest,
+        )),
         24 => long_head(major, 1, rest),
         25 => long_head(major, 2, rest),
         26 => long_head(major, 4, rest),
@@ -77,7 +82,7 @@ impl<'a> Reader<'a> {
     // The next head; where there is none, nothing is taken.
     pub fn head(&mut self) -> Result<Head, Fault>
         ensures answer { λ r. ⌜ outcome itself r (left (now (self .exit))) ≡ head-of (left (now (self .entry))) ⌝ }
-        ensures same { λ r. ⌜ Cases r (λ _. Unit {0}) (λ _. left (now (self .exit)) ≡ left (now (self .entry))) ⌝ }
+        ensures same { λ r. ⌜ Cases r (λ _. Unit {0}) (λ _. now (self .exit) ≡ now (self .entry)) ⌝ }
     {
         let (head, rest) = head_of(self.rest)?;
         self.rest = rest;
@@ -87,7 +92,7 @@ impl<'a> Reader<'a> {
     // The next bytes, as many as asked for; where there are fewer, nothing is taken.
     pub fn text(&mut self, len: u64) -> Result<&'a [u8], Fault>
         ensures answer { λ r. ⌜ outcome now r (left (now (self .exit))) ≡ taken len (left (now (self .entry))) ⌝ }
-        ensures same { λ r. ⌜ Cases r (λ _. Unit {0}) (λ _. left (now (self .exit)) ≡ left (now (self .entry))) ⌝ }
+        ensures same { λ r. ⌜ Cases r (λ _. Unit {0}) (λ _. now (self .exit) ≡ now (self .entry)) ⌝ }
     {
         let Some((text, rest)) = self.rest.split_at_checked(len as usize) else {
             return Err(Fault::Ends);
