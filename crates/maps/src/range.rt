@@ -1,9 +1,9 @@
 // Whether the values of properties lie in their ranges.
-ghost use mathlib.Core.Bool.{cond, _&&_};
 ghost use lib.Dec.{leb};
 ghost use lib.ListN.{length};
-ghost use Rattle.std.specs.Options.{mapped};
+ghost use mathlib.Core.Bool.{cond, _&&_};
 ghost use mathlib.Core.Path.{_≡_};
+ghost use Rattle.std.specs.Options.{mapped};
 ghost use Rattle.std.specs.declared.result.Result.the-variants.{Ok, Err};
 ghost use Rattle.protocol.specs.declared.refusal.Refusal.the-variants.{BadValue};
 ghost use Rattle.maps.specs.Maps.{in-range, meant, absent-or};
