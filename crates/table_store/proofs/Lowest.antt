@@ -68,10 +68,10 @@ lower-none None = refl
 lower-none (Some x) = refl
 
 -- one turn of the scan: what is found so far and what is left give the lowest of all
-pub least-more : (ps : List Place) (i : ℕ) (d : Place) (after : ℕ) (best new all : Option ℕ) → i < length ps
-    → lower best (least (drop i ps) after) ≡ all → new ≡ lower best (candidate (getD ps i d) after) → lower new (least (drop (i + 1) ps) after) ≡ all
-least-more ps i d after best new all l inv e =
-    ap (λ b. lower b (least (drop (i + 1) ps) after)) e
+pub least-more : (ps : List Place) (i : ℕ) (d : Place) (after : ℕ) (best own new all : Option ℕ) → i < length ps
+    → lower best (least (drop i ps) after) ≡ all → own ≡ candidate (getD ps i d) after → new ≡ lower best own → lower new (least (drop (i + 1) ps) after) ≡ all
+least-more ps i d after best own new all l inv o e =
+    ap (λ b. lower b (least (drop (i + 1) ps) after)) (e ∙ ap (lower best) o)
     ∙ lower-assoc best (candidate (getD ps i d) after) (least (drop (i + 1) ps) after)
     ∙ sym (ap (λ xs. lower best (least xs after)) (drop-more ps i d l))
     ∙ inv

@@ -16,7 +16,7 @@ use Rattle.std.specs.Slices.{found}
 use Rattle.std.specs.declared.option.Option.{Option}
 use Rattle.std.specs.declared.option.Option.the-variants.{Some, None}
 use Rattle.store.specs.declared.key.Key.{Key}
-use Rattle.store.specs.Held.{Entry, value-limit, proper, rank, same-key, look, put, remove, Sound}
+use Rattle.store.specs.Held.{Entry, value-limit, proper, rank, same-key, look, put, remove, full, Sound}
 use Rattle.store.proofs.Maps.{key-is, same-key-sym, same-key-like, same-key-refl, look-put, look-remove, sound-put, sound-remove, length-put, one-map}
 use Rattle.table_store.specs.declared.place.Place.{Place}
 use Rattle.table_store.specs.Places.{value-of, map-of, holds, some-holds, all-held, well, tidy, filled, freed, First, Fit, Free}
@@ -177,6 +177,13 @@ any-place = record { held = false; key = record { handle = record { 0 = 0 }; par
 pub behind : (ps : List Place) (k : Key) (i : ℕ) → tidy ps ≡ true → First ps k i → some-holds (drop (i + 1) ps) k ≡ false
 behind ps k i t f = tidy-behind (take i ps) (drop (i + 1) ps) (getD ps i any-place) k (ap tidy (sym (around ps i any-place (f .0))) ∙ t) (f .2 any-place)
 
+-- what a key's place holds is within the limit, and has room for the largest value
+pub first-len : (ps : List Place) (k : Key) (i : ℕ) (d : Place) → tidy ps ≡ true → First ps k i → getD ps i d .len ≤ value-limit
+first-len ps k i d t f = well-parts (getD ps i d) (well-at ps i d (f .0) t) .len (and-parts (getD ps i d .held) (same-key (getD ps i d .key) k) (f .2 d) .0)
+
+pub room-at : (ps : List Place) (i : ℕ) (d : Place) → tidy ps ≡ true → i < length ps → length (getD ps i d .value) ≡ value-limit
+room-at ps i d t l = well-parts (getD ps i d) (well-at ps i d l t) .room
+
 -- the place of a key is fit for a put
 pub fit-first : (ps : List Place) (k : Key) (i : ℕ) → tidy ps ≡ true → First ps k i → Fit ps k i
 fit-first ps k i t f = (f .0, f .1, behind ps k i t f, λ d. (let h = f .2 d in grind arith))
@@ -196,7 +203,7 @@ tidy-put ps k v i d t pk l f =
     let p = getD ps i d in
     let a = around ps i d (f .0) in
     rw (replaced ps i (filled p k v) (f .0))
-    (tidy-replaced (take i ps) (drop (i + 1) ps) p (filled p k v) (ap tidy (sym a) ∙ t) (well-filled p k v (well-parts p (well-at ps i d (f .0) t) .room) pk l) (f .1) (f .2))
+    (tidy-replaced (take i ps) (drop (i + 1) ps) p (filled p k v) (ap tidy (sym a) ∙ t) (well-filled p k v (room-at ps i d t (f .0)) pk l) (f .1) (f .2))
 
 pub map-put : (ps : List Place) (k : Key) (v : List ℕ) (i : ℕ) (d : Place) → tidy ps ≡ true → proper k ≡ true → length v ≤ value-limit → Fit ps k i
     → map-of (set ps i (filled (getD ps i d) k v)) ≡ put (map-of ps) k v
@@ -215,7 +222,7 @@ map-put ps k v i d t pk l f =
 pub tidy-remove : (ps : List Place) (k : Key) (i : ℕ) (d : Place) → tidy ps ≡ true → First ps k i → tidy (set ps i (freed (getD ps i d))) ≡ true
 tidy-remove ps k i d t f =
     let p = getD ps i d in
-    let w = well-parts p (well-at ps i d (f .0) t) .room in
+    let w = room-at ps i d t (f .0) in
     rw (replaced ps i (freed p) (f .0))
     (tidy-replaced (take i ps) (drop (i + 1) ps) p (freed p) (ap tidy (sym (around ps i d (f .0))) ∙ t) (grind (arith, tells)) refl refl)
 
@@ -277,3 +284,36 @@ new-answer ps k (Some i) n f = let a = f .2 in grind arith
 pub new-place : (ps : List Place) (k : Key) (r : Option ℕ) → some-holds ps k ≡ false → Cases r (all-held ps ≡ true) (Free ps) → found r (Fit ps k)
 new-place ps k None n f = tt
 new-place ps k (Some i) n f = fit-free ps k i (f .0) n (f .1)
+
+-- the value of a key that has a place
+look-at : (xs ys : List Place) (p : Place) (k : Key) → some-holds xs k ≡ false → holds p k ≡ true → look (map-of (xs ++ p ∷ ys)) k ≡ Some (value-of p)
+look-at [] ys p k n h = look-place p ys k ∙ cond-true _ _ _ h
+look-at (x ∷ xs) ys p k n h =
+    let m = or-parts (holds x k) (some-holds xs k) n in
+    look-place x (xs ++ p ∷ ys) k ∙ cond-false _ _ _ (m .0) ∙ look-at xs ys p k (m .1) h
+
+pub look-found : (ps : List Place) (k : Key) (i : ℕ) (d : Place) → First ps k i → look (map-of ps) k ≡ Some (value-of (getD ps i d))
+look-found ps k i d f =
+    ap (λ xs. look (map-of xs) k) (around ps i d (f .0))
+    ∙ look-at (take i ps) (drop (i + 1) ps) (getD ps i d) k (f .1) (f .2 d)
+
+-- a table is full for a key exactly if the key has no place and none is free
+pub full-for : (ps : List Place) (n : ℕ) (k : Key) (r : Bool) → tidy ps ≡ true → length ps ≡ n → proper k ≡ true → r ≡ (some-holds ps k || not (all-held ps))
+    → full (map-of ps) n k ≡ not r
+full-for ps n k r t e p h =
+    let s = look-some ps k in
+    let f = full-map ps t in
+    let g = ap (λ m. leb m (length (map-of ps))) e in
+    grind arith
+
+-- a table of free places
+pub map-empty : (n : ℕ) (p : Place) → p .held ≡ false → map-of (replicate n p) ≡ []
+map-empty zero p h = refl
+map-empty (suc n) p h = cond-false _ _ _ h ∙ map-empty n p h
+
+pub tidy-empty : (n : ℕ) (p : Place) → p .held ≡ false → length (p .value) ≡ value-limit → tidy (replicate n p) ≡ true
+tidy-empty zero p h l = refl
+tidy-empty (suc n) p h l =
+    let w : well p ≡ true = grind (arith, tells) in
+    let ih = tidy-empty n p h l in
+    tidy-from p (replicate n p) (record { first = w; alone = grind arith; rest = ih })

@@ -1,8 +1,8 @@
 // One place of the table: free, or held for a key with its value.
 ghost use Prim.Native.Nat.{_≤_};
 ghost use Rattle.std.specs.declared.option.Option.the-variants.{None, Some};
-ghost use Rattle.store.specs.Held.{value-limit};
-ghost use Rattle.table_store.specs.Places.{candidate, filled, freed, holds};
+ghost use Rattle.store.specs.Held.{laid, value-limit};
+ghost use Rattle.table_store.specs.Places.{candidate, filled, freed, holds, value-of};
 ghost use lib.ListN.{length};
 ghost use mathlib.Core.Bool.{cond, false};
 ghost use mathlib.Core.Path.{_≡_};
@@ -47,6 +47,17 @@ impl Place {
         ensures { λ r. ⌜ cond r (Some (now (self .entry) .key .handle .0)) None ≡ candidate (now (self .entry)) (after .0) ⌝ }
     {
         self.held && self.key.part == 0 && self.key.handle.0 > after.0
+    }
+
+    // Copies the value to the front of the buffer, and tells its length.
+    pub(crate) fn copy_to(&self, out: &mut [u8]) -> usize
+        requires { ⌜ now self .len ≤ value-limit ⌝ ∗ ⌜ length (now self .value) ≡ value-limit ⌝ ∗ ⌜ value-limit ≤ length (now out) ⌝ }
+        ensures answer { λ r. ⌜ r ≡ length (value-of (now (self .entry))) ⌝ }
+        ensures buffer { λ _. ⌜ now (out .exit) ≡ laid (Some (value-of (now (self .entry)))) (now (out .entry)) ⌝ }
+    {
+        let n = self.len;
+        out[0..n].copy_from_slice(&self.value[0..n]);
+        n
     }
 
     // Holds the place for the key with the bytes as its value.
