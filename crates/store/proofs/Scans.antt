@@ -1,5 +1,5 @@
 -- Laws of a scan over keys for the next topic.
-use mathlib.Core.Bool.{true, false, _&&_, _||_}
+use mathlib.Core.Bool.{false, _&&_, _||_}
 use mathlib.Core.List.{List}
 use mathlib.Core.Path.{_≡_, refl, ap}
 use Prim.Native.Nat.{ℕ, _<_}
@@ -10,9 +10,10 @@ use Rattle.std.proofs.shelf.Ways.{tells}
 use Rattle.std.specs.declared.option.Option.{Option}
 use Rattle.std.specs.declared.option.Option.the-variants.{Some, None}
 use Rattle.store.specs.declared.key.Key.{Key}
-use Rattle.store.specs.Held.{Entry, same-key}
+use Rattle.store.specs.Held.{Entry, put, same-key}
 use Rattle.store.specs.Laws.{Lowest, has-properties}
 use Rattle.store.specs.Scans.{candidate, lower}
+use Rattle.store.proofs.Maps.{look-put}
 
 pub lower-none : (a : Option ℕ) → lower a None ≡ a
 lower-none None = refl
@@ -57,3 +58,8 @@ lowest-more es fs k after r m l =
     cond-both (eqb (k .part) 0 && ltb after (k .handle .0)) (Some (k .handle .0)) None (λ o. Lowest fs after (lower o r))
     (λ y. lowest-with es fs k after r m (grind (arith, tells)) (grind (arith, tells)) l)
     (λ n. lowest-without es fs k after r m n l)
+
+-- the lowest handle after a put
+pub lowest-put : (es : List Entry) (k : Key) (v : List ℕ) (after : ℕ) (r : Option ℕ) → Lowest es after r → Lowest (put es k v) after (lower (candidate k after) r)
+lowest-put es k v after r =
+    lowest-more es (put es k v) k after r (λ h. (let l = look-put es k v (record { handle = record { 0 = h }; part = 0 }) in grind arith))
