@@ -1,7 +1,7 @@
 use mathlib.Core.Path.{ap, sym, _∙_}
 use Rattle.std.proofs.shelf.Lists.{take-all}
 use Rattle.table_store.specs.Places.{some-holds}
-use Rattle.table_store.proofs.Tables.{first-found, not-held-more}
+use Rattle.table_store.proofs.Finds.{first-found, not-held-more}
 use Rattle.table_store.proofs.scan.find.Needs as need
 
 pub loop-i-again : need.loop-i-again

@@ -1,7 +1,7 @@
 use mathlib.Core.Path.{ap, sym, _∙_}
 use Rattle.std.proofs.shelf.Lists.{take-all}
 use Rattle.table_store.specs.Places.{all-held}
-use Rattle.table_store.proofs.Tables.{all-held-more, free-found}
+use Rattle.table_store.proofs.Finds.{all-held-more, free-found}
 use Rattle.table_store.proofs.scan.free.Needs as need
 
 pub loop-i-again : need.loop-i-again

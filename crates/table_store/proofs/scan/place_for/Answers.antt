@@ -1,7 +1,8 @@
-use mathlib.Core.Bool.{true, not, _||_}
+use mathlib.Core.Bool.{not, _||_}
 use mathlib.Core.Path.{ap, sym}
 use Rattle.table_store.specs.Places.{all-held}
-use Rattle.table_store.proofs.Tables.{first-some, fit-first, new-answer, new-place}
+use Rattle.table_store.proofs.Finds.{first-some, new-answer, new-place}
+use Rattle.table_store.proofs.Writes.{fit-first}
 use Rattle.table_store.proofs.scan.place_for.Needs as need
 
 pub returns-in-Some : need.returns-in-Some

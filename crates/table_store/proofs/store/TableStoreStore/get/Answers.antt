@@ -1,9 +1,10 @@
 use mathlib.Core.Path.{ap, sym, _∙_}
-use Rattle.std.specs.declared.option.Option.the-variants.{Some, None}
+use Rattle.std.specs.declared.option.Option.the-variants.{Some}
 use Rattle.std.specs.declared.result.Result.the-variants.{Ok}
 use Rattle.store.proofs.Replies.{get-answers, get-fills}
 use Rattle.table_store.specs.Places.{map-of}
-use Rattle.table_store.proofs.Tables.{first-len, look-found, look-none, room-at}
+use Rattle.table_store.proofs.Finds.{first-len, look-found}
+use Rattle.table_store.proofs.Tables.{look-none, room-at}
 use Rattle.table_store.proofs.store.TableStoreStore.get.Needs as need
 
 pub copy-to-n-requires : need.copy-to-n-requires

@@ -5,7 +5,8 @@ use Rattle.std.proofs.shelf.Lists.{length-set}
 use Rattle.store.proofs.Replies.{put-answers, put-full}
 use Rattle.table_store.specs.declared.place.Place.{Place}
 use Rattle.table_store.specs.Places.{map-of, tidy}
-use Rattle.table_store.proofs.Tables.{full-for, map-put, tidy-put}
+use Rattle.table_store.proofs.Tables.{full-for}
+use Rattle.table_store.proofs.Writes.{map-put, tidy-put}
 use Rattle.table_store.proofs.store.TableStoreStore.put.Needs as need
 
 pub ghost-self : need.ghost-self

@@ -7,7 +7,9 @@ use Rattle.store.proofs.Maps.{remove-absent}
 use Rattle.store.proofs.Replies.{remove-answers}
 use Rattle.table_store.specs.declared.place.Place.{Place}
 use Rattle.table_store.specs.Places.{map-of, tidy}
-use Rattle.table_store.proofs.Tables.{first-some, look-none, look-some, map-remove, tidy-remove}
+use Rattle.table_store.proofs.Finds.{first-some}
+use Rattle.table_store.proofs.Tables.{look-none, look-some}
+use Rattle.table_store.proofs.Writes.{map-remove, tidy-remove}
 use Rattle.table_store.proofs.store.TableStoreStore.remove.Needs as need
 
 pub ghost-self : need.ghost-self
