@@ -1,0 +1,2 @@
+// A store that is a log in the caller's bytes.
+mod trailer;
