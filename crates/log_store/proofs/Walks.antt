@@ -5,7 +5,7 @@ use mathlib.Core.Path.{_≡_, refl, sym, ap, subst, _∙_}
 use Prim.Native.Nat.{ℕ, _+_, _-_, _<_, _≤_}
 use native.Mathlib.Omega.{arith}
 use lib.ListN.{length, take, drop}
-use Rattle.std.proofs.shelf.Lists.{length-take-le}
+use Rattle.std.proofs.shelf.Lists.{drop-take, length-take-le, take-take}
 use Rattle.std.proofs.shelf.Tests.{cond-true, cond-false}
 use Rattle.std.specs.declared.option.Option.{Option}
 use Rattle.std.specs.declared.option.Option.the-variants.{Some, None}
@@ -58,3 +58,12 @@ pub look-miss : (bs : List ℕ) (end : ℕ) (k : Key) → Newest bs end → same
 look-miss bs end k n h =
     ap (λ es. look es k) (left-is bs end n)
     ∙ sym (ap (λ es. look es k) (n .is) ∙ cond-false _ _ _ (ap (λ (j : Key). same-key j k) (sym (n .top .key)) ∙ h))
+
+-- a part of a log is a part of the memory that it lies in
+pub part-of : (bs : List ℕ) (used at len : ℕ) → used ≤ length bs → at + len ≤ length (take (used - 0) bs) → take len (drop at (take (used - 0) bs)) ≡ take (at + len - at) (drop at bs)
+part-of bs used at len l h =
+    let w : at + len ≤ used = omega (arith, length-take-le (used - 0) bs (omega arith)) in
+    ap (λ k. take len (drop at (take k bs))) {x = used - 0} {y = at + (used - at)} (omega arith)
+    ∙ ap (take len) (drop-take at (used - at) bs)
+    ∙ take-take len (used - at) (drop at bs) (omega arith)
+    ∙ ap (λ k. take k (drop at bs)) {x = len} {y = at + len - at} (omega arith)
