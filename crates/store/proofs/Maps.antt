@@ -1,13 +1,13 @@
 -- Laws of the map that a store means: what put and remove do to look-ups, order and length, and when two maps are one.
-use mathlib.Core.Bool.{Bool, true, false, cond, not, _&&_, _||_}
-use mathlib.Core.List.{List, [], _∷_, _++_}
-use mathlib.Core.Logic.{_⊎_, inl, inr}
+use mathlib.Core.Bool.{true, false, cond, _&&_}
+use mathlib.Core.List.{List, [], _∷_}
+use mathlib.Core.Logic.{inl, inr}
 use mathlib.Core.Path.{_≡_, refl, sym, ap, subst, _∙_}
-use Prim.Native.Nat.{ℕ, _+_, _*_, _<_, _≤_}
+use Prim.Native.Nat.{ℕ, _+_, _<_, _≤_}
 use native.Mathlib.Omega.{arith}
-use lib.Dec.{eqb, leb, ltb}
+use lib.Dec.{eqb, ltb}
 use lib.ListN.{length}
-use Rattle.std.proofs.shelf.Tests.{cases-bool, cases-order, cond-true, cond-false, cond-both, eq-eqb, ltb-true, ltb-false, eqb-true, eqb-false, and-parts, both-ways}
+use Rattle.std.proofs.shelf.Tests.{cases-bool, cases-order, cond-true, cond-false, cond-both, eq-eqb, ltb-true, ltb-false, eqb-true, eqb-false, and-parts}
 use Rattle.std.proofs.shelf.Ways.{tells}
 use Rattle.std.specs.Options.{isSome}
 use Rattle.std.specs.declared.option.Option.{Option}

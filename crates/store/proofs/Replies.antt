@@ -1,9 +1,8 @@
 -- What the methods of a store answer, from what is known of the key, the sizes and the look-up.
-use mathlib.Core.Bool.{Bool, true, false, cond, _&&_}
+use mathlib.Core.Bool.{Bool, true, false}
 use mathlib.Core.List.{List}
-use mathlib.Core.Path.{_≡_, ap, sym, _∙_}
+use mathlib.Core.Path.{_≡_, ap, _∙_}
 use Prim.Native.Nat.{ℕ, _≤_}
-use lib.Dec.{leb}
 use lib.ListN.{length}
 use Rattle.std.proofs.shelf.Tests.{and-from, cond-true, cond-false, le-leb}
 use Rattle.std.specs.Options.{isSome, mapped}

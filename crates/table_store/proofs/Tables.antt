@@ -1,12 +1,12 @@
 -- Laws of the places of a table: look-ups in their map, its order and size, and what a write or a release of one place does to it.
 use mathlib.Core.Bool.{Bool, true, false, cond, not, _&&_, _||_}
 use mathlib.Core.List.{List, [], _∷_, _++_}
-use mathlib.Core.Logic.{_⊎_, inl, inr}
-use mathlib.Core.Path.{_≡_, refl, sym, ap, subst, _∙_}
+use mathlib.Core.Logic.{inl, inr}
+use mathlib.Core.Path.{_≡_, refl, sym, ap, _∙_}
 use Prim.Native.Nat.{ℕ, zero, suc, _+_, _<_, _≤_}
 use native.Mathlib.Numerals.{add-one}
 use native.Mathlib.Omega.{arith}
-use lib.Dec.{eqb, leb, ltb}
+use lib.Dec.{leb}
 use lib.ListN.{length, take, drop, getD, set, replicate}
 use Rattle.std.proofs.shelf.Lists.{length-append, length-drop, length-take, getD-default, take-at, take-more, set-split, set-getD}
 use Rattle.std.proofs.shelf.Tests.{cases-bool, cond-true, cond-false, cond-both, and-parts, or-parts}
@@ -16,8 +16,8 @@ use Rattle.std.specs.Slices.{found}
 use Rattle.std.specs.declared.option.Option.{Option}
 use Rattle.std.specs.declared.option.Option.the-variants.{Some, None}
 use Rattle.store.specs.declared.key.Key.{Key}
-use Rattle.store.specs.Held.{Entry, value-limit, proper, rank, same-key, look, put, remove, full, Sound}
-use Rattle.store.proofs.Maps.{key-is, same-key-sym, same-key-like, same-key-refl, look-put, look-remove, sound-put, sound-remove, length-put, one-map}
+use Rattle.store.specs.Held.{value-limit, proper, same-key, look, put, remove, full, Sound}
+use Rattle.store.proofs.Maps.{key-is, same-key-sym, same-key-like, look-put, look-remove, sound-put, sound-remove, length-put, one-map}
 use Rattle.table_store.specs.declared.place.Place.{Place}
 use Rattle.table_store.specs.Places.{value-of, map-of, holds, some-holds, all-held, well, tidy, filled, freed, First, Fit, Free}
 

@@ -3,10 +3,8 @@ use mathlib.Core.Bool.{Bool, true, false, cond, not, _&&_, _||_}
 use mathlib.Core.List.{List, [], _∷_, _++_}
 use mathlib.Core.Path.{_≡_}
 use Prim.Native.Nat.{ℕ, _+_, _<_}
-use lib.Dec.{eqb, leb, ltb}
+use lib.Dec.{eqb, leb}
 use lib.ListN.{length, take, drop, getD}
-use Rattle.std.specs.declared.option.Option.{Option}
-use Rattle.std.specs.declared.option.Option.the-variants.{Some, None}
 use Rattle.store.specs.declared.key.Key.{Key}
 use Rattle.store.specs.Held.{Entry, proper, put, same-key, value-limit}
 use Rattle.table_store.specs.declared.place.Place.{Place}
@@ -50,16 +48,6 @@ filled p k v = record { held = true; key = k; len = length v; value = v ++ drop 
 -- the place free, its bytes as they were
 abbrev pub freed : Place → Place
 freed p = record { held = false; key = p .key; len = p .len; value = p .value }
-
--- the handle of a place that is held for the properties of a topic above a handle
-abbrev pub candidate : Place → ℕ → Option ℕ
-candidate p after = cond (p .held && (eqb (p .key .part) 0 && ltb after (p .key .handle .0))) (Some (p .key .handle .0)) None
-
--- the lower of two handles, where there are two
-abbrev pub lower : Option ℕ → Option ℕ → Option ℕ
-lower None b = b
-lower (Some a) None = Some a
-lower (Some a) (Some b) = Some (cond (ltb a b) a b)
 
 -- the first place that is held for the key
 abbrev pub First : List Place → Key → ℕ → Type 0

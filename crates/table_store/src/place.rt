@@ -1,10 +1,10 @@
 // One place of the table: free, or held for a key with its value.
 ghost use Prim.Native.Nat.{_≤_};
-ghost use Rattle.std.specs.declared.option.Option.the-variants.{None, Some};
+ghost use Rattle.std.specs.declared.option.Option.the-variants.{Some};
 ghost use Rattle.store.specs.Held.{laid, value-limit};
-ghost use Rattle.table_store.specs.Places.{candidate, filled, freed, holds, value-of};
+ghost use Rattle.table_store.specs.Places.{filled, freed, holds, value-of};
 ghost use lib.ListN.{length};
-ghost use mathlib.Core.Bool.{cond, false};
+ghost use mathlib.Core.Bool.{false};
 ghost use mathlib.Core.Path.{_≡_};
 use protocol::Handle;
 use store::Key;
@@ -40,13 +40,6 @@ impl Place {
         ensures { λ r. ⌜ r ≡ holds (now (self .entry)) key ⌝ }
     {
         self.held && self.key.is(key)
-    }
-
-    // Whether the place is held for the properties of a topic above the given one.
-    pub(crate) fn is_topic_above(&self, after: Handle) -> bool
-        ensures { λ r. ⌜ cond r (Some (now (self .entry) .key .handle .0)) None ≡ candidate (now (self .entry)) (after .0) ⌝ }
-    {
-        self.held && self.key.part == 0 && self.key.handle.0 > after.0
     }
 
     // Copies the value to the front of the buffer, and tells its length.

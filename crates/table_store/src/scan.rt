@@ -1,14 +1,14 @@
 // Scans over the places of a table.
 ghost use Rattle.std.specs.Options.{Cases as BySome, isSome, mapped};
 ghost use Rattle.std.specs.Slices.{found};
-ghost use Rattle.std.specs.declared.option.Option.the-variants.{Some};
 ghost use Rattle.store.specs.Laws.{Lowest};
-ghost use Rattle.table_store.specs.Places.{First, Fit, Free, all-held, lower, map-of, some-holds, tidy};
+ghost use Rattle.table_store.specs.Places.{First, Fit, Free, all-held, map-of, some-holds, tidy};
 ghost use mathlib.Core.Bool.{_||_, false, not, true};
 ghost use mathlib.Core.Path.{_≡_};
 use crate::place::Place;
 use protocol::Handle;
 use store::Key;
+use store::lower;
 
 // The place that is held for the key.
 pub(crate) fn find(places: &[Place], key: Key) -> Option<usize>
@@ -46,24 +46,14 @@ pub(crate) fn place_for(places: &[Place], key: Key) -> Option<usize>
     }
 }
 
-// The lower of a handle so far, if there is one, and another.
-fn lower_of(best: Option<Handle>, handle: Handle) -> Handle
-    ensures { λ r. ⌜ mapped (λ h. h .0) (Some r) ≡ lower (mapped (λ h. h .0) best) (Some (handle .0)) ⌝ }
-{
-    match best {
-        Some(b) if b.0 < handle.0 => b,
-        _ => handle,
-    }
-}
-
 // The lowest handle above the given one for whose properties a place is held.
 pub(crate) fn lowest(places: &[Place], after: Handle) -> Option<Handle>
     ensures { λ r. ⌜ Lowest (map-of (now (places .entry))) (after .0) (mapped (λ h. h .0) r) ⌝ }
 {
     let mut best = None;
     for p in places {
-        if p.is_topic_above(after) {
-            best = Some(lower_of(best, p.key.handle));
+        if p.held {
+            best = lower(best, p.key, after);
         }
     }
     best

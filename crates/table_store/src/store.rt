@@ -1,6 +1,4 @@
 // The table store keeps the contracts of a store.
-ghost use Prim.Native.Nat.{ℕ};
-ghost use Rattle.store.specs.Held.{Entry};
 ghost use Rattle.table_store.specs.Table.{table-capacity, table-held};
 ghost use mathlib.Core.List.{[]};
 ghost use mathlib.Core.Path.{_≡_};

@@ -1,7 +1,7 @@
 use lib.ListN.{drop}
 use mathlib.Core.Path.{_≡_}
 use Rattle.std.specs.Options.{mapped}
-use Rattle.table_store.specs.Places.{lower}
+use Rattle.store.specs.Scans.{lower}
 use Rattle.table_store.proofs.Lowest.{least}
 use Rattle.table_store.proofs.scan.lowest.Given as given
 

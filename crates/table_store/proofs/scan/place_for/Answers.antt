@@ -1,4 +1,4 @@
-use mathlib.Core.Bool.{true, not, _||_}
+use mathlib.Core.Bool.{not, _||_}
 use mathlib.Core.Path.{ap, sym}
 use Rattle.table_store.specs.Places.{all-held}
 use Rattle.table_store.proofs.Tables.{first-some, fit-first, new-answer, new-place}
