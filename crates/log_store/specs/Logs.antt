@@ -1,11 +1,7 @@
 -- What a log means, and what is left of it where entries are squeezed out.
 use mathlib.Core.Bool.{Bool, cond, not, _&&_}
 use mathlib.Core.List.{List, [], _∷_, _++_}
-use Prim.Native.Nat.{ℕ}
-use lib.Dec.{eqb, ltb}
 use Rattle.std.specs.Options.{isSome}
-use Rattle.std.specs.declared.option.Option.{Option}
-use Rattle.std.specs.declared.option.Option.the-variants.{Some, None}
 use Rattle.store.specs.declared.key.Key.{Key}
 use Rattle.store.specs.Held.{Entry, look, put, same-key}
 
@@ -22,13 +18,3 @@ stays gone dead newer k = not (same-key k gone) && not (dead && isSome (look new
 abbrev pub sifted : Key → Bool → List Entry → List Entry → List Entry
 sifted gone dead newer [] = newer
 sifted gone dead newer (e ∷ es) = sifted gone dead (cond (stays gone dead newer (e .key)) (newer ++ e ∷ []) newer) es
-
--- the lower of two numbers, where there are any
-abbrev pub lower : Option ℕ → Option ℕ → Option ℕ
-lower None b = b
-lower (Some a) None = Some a
-lower (Some a) (Some b) = Some (cond (ltb b a) b a)
-
--- the handle of a key of properties above a handle
-abbrev pub candidate : Key → ℕ → Option ℕ
-candidate k after = cond (eqb (k .part) 0 && ltb after (k .handle .0)) (Some (k .handle .0)) None

@@ -1,10 +1,9 @@
 // The caller's bytes with a log at their front, and what is done to it.
-ghost use mathlib.Core.Bool.{cond, true};
+ghost use mathlib.Core.Bool.{true};
 ghost use mathlib.Core.List.{[], _++_};
 ghost use mathlib.Core.Path.{_≡_};
 ghost use Prim.Native.Nat.{_+_, _/_, _≤_};
-ghost use lib.Dec.{leb};
-ghost use lib.ListN.{drop, length, take};
+ghost use lib.ListN.{drop, length};
 ghost use Rattle.log_store.specs.Format.{encoded, entries, entry-bytes};
 ghost use Rattle.log_store.specs.Logs.{meaning, sifted};
 ghost use Rattle.log_store.specs.Memories.{Whole, contents, size, with-entry};
@@ -17,10 +16,12 @@ use crate::walk::find;
 use crate::walk::next;
 use protocol::Handle;
 use store::Key;
+use store::VALUE_LIMIT;
 
 // The most bytes that an entry takes.
-pub const ENTRY_LIMIT: usize = 583;
+pub const ENTRY_LIMIT: usize = VALUE_LIMIT + TRAILER;
 
+// The caller's bytes, and how many of them the log has.
 #[derive(Drop)]
 pub struct Memory<'a> {
     pub(crate) bytes: &'a mut [u8],

@@ -1,16 +1,16 @@
 // Walks back over the entries of a log, from its end.
-ghost use mathlib.Core.List.{List, []};
 ghost use mathlib.Core.Path.{_≡_};
-ghost use Prim.Native.Nat.{ℕ, _+_, _≤_};
+ghost use Prim.Native.Nat.{_+_, _≤_};
 ghost use lib.ListN.{drop, length, take};
 ghost use Rattle.log_store.specs.Format.{Log, entries};
-ghost use Rattle.log_store.specs.Logs.{candidate, lower as lower-of, meaning};
+ghost use Rattle.log_store.specs.Logs.{meaning};
 ghost use Rattle.std.specs.Options.{Cases as BySome, mapped};
 ghost use Rattle.store.specs.Held.{look, next as next-of};
 use crate::trailer::TRAILER;
 use crate::trailer::read;
 use protocol::Handle;
 use store::Key;
+use store::lower;
 
 // Where a value lies in a log.
 #[derive(Clone, Copy)]
@@ -35,25 +35,6 @@ pub fn find(bytes: &[u8], key: Key) -> Option<Span>
         end = at;
     }
     None
-}
-
-// The lower of the best handle so far and that of a key, if this is of properties and above `after`.
-fn lower(best: Option<Handle>, key: Key, after: Handle) -> Option<Handle>
-    ensures { λ r. ⌜ mapped (λ h. h .0) r ≡ lower-of (mapped (λ h. h .0) best) (candidate key (after .0)) ⌝ }
-{
-    if key.part != 0 || key.handle.0 <= after.0 {
-        return best;
-    }
-    match best {
-        Some(b) => {
-            if key.handle.0 < b.0 {
-                Some(key.handle)
-            } else {
-                Some(b)
-            }
-        }
-        None => Some(key.handle),
-    }
 }
 
 // The lowest handle above the given one that has properties. A dead entry serves as well: its key has a newer one.

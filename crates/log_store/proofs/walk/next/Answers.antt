@@ -5,10 +5,11 @@ use lib.ListN.{length, take}
 use Rattle.std.proofs.shelf.Lists.{take-all}
 use Rattle.std.specs.Options.{mapped}
 use Rattle.store.specs.declared.key.Key.{Key}
+use Rattle.store.specs.Scans.{candidate, lower}
+use Rattle.store.proofs.Scans.{lower-none}
 use Rattle.log_store.specs.Format.{Log, entries}
-use Rattle.log_store.specs.Logs.{candidate, lower}
 use Rattle.log_store.proofs.Format.{entries-none}
-use Rattle.log_store.proofs.Nexts.{lowest, lowest-is, lowest-step, lower-none}
+use Rattle.log_store.proofs.Nexts.{lowest, lowest-is, lowest-step}
 use Rattle.log_store.proofs.Walks.{newest, room, left-log}
 use Rattle.log_store.proofs.walk.next.Needs as need
 

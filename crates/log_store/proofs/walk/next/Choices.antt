@@ -3,7 +3,7 @@ use mathlib.Core.Path.{_≡_}
 use lib.ListN.{length, take}
 use Rattle.std.specs.Options.{mapped}
 use Rattle.log_store.specs.Format.{Log, entries}
-use Rattle.log_store.specs.Logs.{lower}
+use Rattle.store.specs.Scans.{lower}
 use Rattle.log_store.proofs.Nexts.{lowest}
 use Rattle.log_store.proofs.walk.next.Given as given
 

@@ -1,12 +1,12 @@
 use borrow.Author.Needs.{needs}
 use native.Mathlib.Omega.{arith}
-use mathlib.Core.Bool.{true, false, cond}
+use mathlib.Core.Bool.{true, cond}
 use mathlib.Core.Path.{_≡_, refl, sym, ap, subst, _∙_}
-use Prim.Native.Nat.{_+_, _/_, _<_, _≤_}
+use Prim.Native.Nat.{_+_, _/_, _≤_}
 use lib.ListN.{length}
-use Rattle.std.proofs.shelf.Tests.{and-from, cond-true, cond-false, le-leb}
 use Rattle.std.specs.Options.{isSome}
 use Rattle.store.specs.Held.{full, look, proper}
+use Rattle.store.proofs.Replies.{put-answers, put-full}
 use Rattle.log_store.specs.Format.{entries}
 use Rattle.log_store.specs.Logs.{meaning}
 use Rattle.log_store.specs.Memories.{contents, size}
@@ -22,7 +22,7 @@ returns-then-no-place c =
     let f : c .no-place .result ≡ full (meaning es) (size (s .memory) / 583) (c .args .key)
         = full-is es (c .args .key) (size (s .memory) / 583) (s .count) (c .capacity .result) (c .holds-held .result) (c .no-place .result) p (c .holds-held .ensures) (c .capacity .ensures) (s .counted) (c .no-place .ensures) in
     record {
-      answer = sym (cond-true _ _ _ (and-from _ _ p (le-leb _ _ (c .if-value-gt-VALUE-LIMIT .left))) ∙ cond-true _ _ _ (sym f ∙ c .if-no-place .taken));
+      answer = sym (put-full (meaning es) (size (s .memory) / 583) (c .args .key) (c .args .value .now) p (c .if-value-gt-VALUE-LIMIT .left) (sym f ∙ c .if-no-place .taken));
       after = refl;
       capacity = refl
     }
@@ -81,7 +81,7 @@ returns c =
     let k = put-kept (contents (c .put .last .self)) es (record { key = c .args .key; value = c .args .value .now }) (size (s .memory)) (c .count-with-self .result) (s .fits)
         (entry-fits (c .args .key) (c .args .value .now) p (search needs) (c .if-value-gt-VALUE-LIMIT .left)) (c .put .ensures .after) n in
     record {
-      answer = sym (cond-true _ _ _ (and-from _ _ p (le-leb _ _ (c .if-value-gt-VALUE-LIMIT .left))) ∙ cond-false _ _ _ (sym f ∙ c .if-no-place .left));
+      answer = sym (put-answers (meaning es) (size (s .memory) / 583) (c .args .key) (c .args .value .now) p (c .if-value-gt-VALUE-LIMIT .left) (sym f ∙ c .if-no-place .left));
       after = k .means;
       capacity = ap (λ i. i / 583) (c .put .ensures .len)
     }

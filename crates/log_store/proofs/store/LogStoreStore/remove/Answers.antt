@@ -2,11 +2,10 @@ use native.Mathlib.Omega.{arith}
 use mathlib.Core.Bool.{true, false}
 use mathlib.Core.Path.{_≡_, refl, sym, ap, subst, _∙_}
 use Prim.Native.Nat.{_-_, _/_, _≤_}
-use Rattle.std.proofs.shelf.Tests.{cond-true}
 use Rattle.std.specs.Options.{isSome}
-use Rattle.std.specs.declared.result.Result.the-variants.{Ok}
 use Rattle.store.specs.Held.{look, proper}
 use Rattle.store.proofs.Maps.{remove-absent}
+use Rattle.store.proofs.Replies.{remove-answers}
 use Rattle.log_store.specs.Format.{entries}
 use Rattle.log_store.specs.Logs.{meaning}
 use Rattle.log_store.specs.Memories.{contents, size}
@@ -20,7 +19,7 @@ returns-then-not-holds c =
     let p : proper (c .args .key) ≡ true = sym (c .is-proper .ensures) ∙ c .if-not-is-proper .left in
     let h : isSome (look (meaning es) (c .args .key)) ≡ false = ap isSome (look-meaning es (c .args .key)) ∙ sym (c .holds .ensures) ∙ c .if-not-holds .taken in
     record {
-      answer = sym (cond-true _ _ _ p ∙ ap Ok h);
+      answer = sym (remove-answers (meaning es) (c .args .key) false p h);
       after = sym (remove-absent (meaning es) (c .args .key) (not-some _ h));
       capacity = refl
     }
@@ -47,7 +46,7 @@ returns c =
     let h : isSome (look es (c .args .key)) ≡ true = sym (c .holds .ensures) ∙ c .if-not-holds .left in
     let k = remove-kept (contents (c .squeeze .last .self)) es (c .args .key) (s .count - 1) (s .fits) (c .squeeze .ensures .after) h (ap (λ i. i - 1) (s .counted)) in
     record {
-      answer = sym (cond-true _ _ _ p ∙ ap Ok (ap isSome (look-meaning es (c .args .key)) ∙ h));
+      answer = sym (remove-answers (meaning es) (c .args .key) true p (ap isSome (look-meaning es (c .args .key)) ∙ h));
       after = k .means;
       capacity = ap (λ i. i / 583) (c .squeeze .ensures .len)
     }
