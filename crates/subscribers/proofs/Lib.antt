@@ -1,1 +1,4 @@
+pub mod Places
 pub mod Sameness
+pub mod Standings
+pub mod Topics

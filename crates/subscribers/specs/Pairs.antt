@@ -2,12 +2,16 @@
 use Prim.Native.Nat.{ℕ, _≤_}
 use mathlib.Core.Bool.{Bool, true, false, cond, not}
 use mathlib.Core.List.{List, [], _∷_, _++_, map}
-use lib.Dec.{eqb}
+use lib.Dec.{eqb, leb}
 use lib.ListN.{length, drop}
 use Rattle.std.specs.shelf.Lists.{kept-by}
+use Rattle.std.specs.declared.result.Result.{Result}
+use Rattle.std.specs.declared.result.Result.the-variants.{Ok, Err}
 use Rattle.clients.specs.Subs.{sub-of}
 use Rattle.clients.specs.declared.subscriber.Subscriber.{Subscriber}
 use Rattle.protocol.specs.declared.names.Handle.{Handle}
+use Rattle.protocol.specs.declared.refusal.Refusal.{Refusal}
+use Rattle.protocol.specs.declared.refusal.Refusal.the-variants.{ShortBuffers}
 use Rattle.subscribers.specs.declared.subscription.Subscription.{Subscription}
 use Rattle.subscribers.specs.Standing.{Standing, same-pair, limit}
 
@@ -41,3 +45,16 @@ module _ {C : Type 0} where
   -- no handle has more subscribers than a topic may have
   abbrev pub Few : List (Subscription C) → Type 0
   Few ps = (h : ℕ) → length (subscribers-at h ps) ≤ limit
+
+-- a list written over the front of another, whose rest stays
+abbrev pub laid : {X : Type 0} → List X → List X → List X
+laid xs buf = xs ++ drop (length xs) buf
+
+module _ {C : Type 0} where
+  -- what a collect answers: refused at a short work list, or how many subscribers the handle has
+  abbrev pub collect-answer : ℕ → List (Subscription C) → ℕ → Result ℕ Refusal
+  collect-answer h ps space = cond (leb limit space) (Ok (length (subscribers-at h ps))) (Err ShortBuffers)
+
+  -- a work list after a collect: the handle's subscribers in front, the rest as it was
+  abbrev pub collect-buffer : ℕ → List (Subscription C) → List (Subscriber C) → List (Subscriber C)
+  collect-buffer h ps work = cond (leb limit (length work)) (laid (subscribers-at h ps) work) work

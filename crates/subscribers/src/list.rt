@@ -6,6 +6,10 @@ ghost use lib.ListN.{length, take};
 use crate::subscription::Subscription;
 
 mod asks;
+mod scan;
+
+// The most subscribers that one topic may have.
+const LIMIT: usize = 100;
 
 #[derive(Drop)]
 pub struct Subscribers<'a, C> {
