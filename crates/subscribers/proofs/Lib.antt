@@ -1,3 +1,4 @@
+pub mod Leaving
 pub mod Places
 pub mod Sameness
 pub mod Standings

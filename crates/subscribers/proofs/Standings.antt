@@ -9,14 +9,15 @@ use lib.Dec.{eqb, leb}
 use lib.ListN.{length, take}
 use Rattle.std.specs.shelf.Lists.{kept-by}
 use Rattle.std.proofs.shelf.Lists.{length-map, length-take-le}
-use Rattle.std.proofs.shelf.Tests.{le-leb, lt-leb, or-left, or-right, or-from}
+use Rattle.std.proofs.shelf.Tests.{le-leb, leb-false, lt-leb, or-from, or-left, or-parts, or-right}
 use Rattle.std.proofs.shelf.Ways.{tells}
 use Rattle.clients.specs.Subs.{Sub, sub-of}
 use Rattle.subscribers.specs.declared.joined.Joined.{Joined}
 use Rattle.subscribers.specs.declared.joined.Joined.the-variants as joined
 use Rattle.subscribers.specs.declared.subscription.Subscription.{Subscription}
 use Rattle.subscribers.specs.Pairs.{standing-of, standings-of, subscribers-at}
-use Rattle.subscribers.specs.Standing.{Standing, join-answer, limit, stands, subs-at}
+use Rattle.subscribers.specs.Standing.{Once, Standing, join-answer, limit, same-pair, stands, subs-at}
+use Rattle.subscribers.proofs.Sameness.{same-pair-refl, same-pair-sym}
 
 module _ {C : Type 0} (id : C → List ℕ) where
   -- a topic's subscribers mean those who stand at its handle
@@ -48,3 +49,33 @@ module _ (l : List Standing) (room : ℕ) (x : Standing) where
     pub told-added : n < limit → k < room → joined.Added ≡ join-answer l room x
     told-added h i =
         told false (or-from _ _ (lt-leb limit (length (subs-at (x .handle) l)) (omega arith)) (lt-leb room (length l) (omega arith)))
+
+-- one who was added had not stood, and there was a place for it
+pub added-facts : (l : List Standing) (room : ℕ) (x : Standing) → joined.Added ≡ join-answer l room x → (stands l x ≡ false) × (length (subs-at (x .handle) l) < limit) × (length l < room)
+added-facts l room x = by (stands l x) (leb limit (length (subs-at (x .handle) l))) (leb room (length l)) refl refl refl
+  where
+    by : (b t u : Bool) → stands l x ≡ b → leb limit (length (subs-at (x .handle) l)) ≡ t → leb room (length l) ≡ u → joined.Added ≡ cond b joined.Standing (cond (t || u) joined.NoPlace joined.Added) → (stands l x ≡ false) × (length (subs-at (x .handle) l) < limit) × (length l < room)
+    by true t u eb et eu e = let z : _≡_ {A = ℕ} 0 1 = cc in absurd (omega arith)
+    by false true u eb et eu e = let z : _≡_ {A = ℕ} 0 1 = cc in absurd (omega arith)
+    by false false true eb et eu e = let z : _≡_ {A = ℕ} 0 1 = cc in absurd (omega arith)
+    by false false false eb et eu e = (eb, leb-false limit (length (subs-at (x .handle) l)) et, leb-false room (length l) eu)
+
+-- one joins
+
+-- the newcomer stands
+pub stands-push : (l : List Standing) (x : Standing) → stands (l ++ x ∷ []) x ≡ true
+stands-push [] x = or-left _ _ (same-pair-refl x)
+stands-push (y ∷ ys) x = or-right _ _ (stands-push ys x)
+
+stands-push-other : (l : List Standing) (x y : Standing) → stands l y ≡ false → same-pair x y ≡ false → stands (l ++ x ∷ []) y ≡ false
+stands-push-other [] x y e ne = or-from _ _ ne refl
+stands-push-other (z ∷ zs) x y e ne =
+    let parts = or-parts (same-pair z y) (stands zs y) e in
+    or-from _ _ (parts .0) (stands-push-other zs x y (parts .1) ne)
+
+-- no pair is there twice, once a newcomer has joined
+pub once-push : (l : List Standing) (x : Standing) → stands l x ≡ false → Once l → Once (l ++ x ∷ [])
+once-push [] x new once = (refl, tt)
+once-push (y ∷ ys) x new once =
+    let parts = or-parts (same-pair y x) (stands ys x) new in
+    (stands-push-other ys x y (once .0) (same-pair-sym x y ∙ parts .0), once-push ys x (parts .1) (once .1))

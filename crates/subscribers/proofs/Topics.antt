@@ -3,16 +3,19 @@ use Prim.Native.Nat.{ℕ, zero, suc, _+_, _≤_, _<_}
 use native.Mathlib.Omega.{arith}
 use mathlib.Core.Bool.{Bool, true, false, cond, not}
 use mathlib.Core.List.{List, [], _∷_, _++_, append-assoc}
-use mathlib.Core.Path.{_≡_, refl, sym, ap, _∙_}
+use mathlib.Core.Logic.{inl, inr}
+use mathlib.Core.Path.{_≡_, refl, sym, ap, subst, _∙_}
 use lib.Dec.{eqb}
 use lib.ListN.{length, getD, take, drop, set, length-append}
 use Rattle.std.specs.shelf.Lists.{kept-by}
+use Rattle.std.proofs.shelf.Filters.{Keeping}
 use Rattle.std.proofs.shelf.Lists.{take-more, take-take, append-nil, drop-more, set-at, length-push}
-use Rattle.std.proofs.shelf.Tests.{eq-eqb}
+use Rattle.std.proofs.shelf.Tests.{cases-eq, eq-eqb, ne-eqb}
 use Rattle.std.proofs.shelf.Ways.{tells}
 use Rattle.clients.specs.declared.subscriber.Subscriber.{Subscriber}
 use Rattle.subscribers.specs.declared.subscription.Subscription.{Subscription}
 use Rattle.subscribers.specs.Pairs.{Few, laid, subscribers-at}
+use Rattle.subscribers.specs.Standing.{limit}
 
 module _ {C : Type 0} (h : ℕ) where
   pub at-append : (ps qs : List (Subscription C)) → subscribers-at h (ps ++ qs) ≡ subscribers-at h ps ++ subscribers-at h qs
@@ -57,3 +60,21 @@ pub few-kept : {C : Type 0} (q : Subscription C → Bool) (ps : List (Subscripti
 few-kept q ps i n l few h =
     let part : length (subscribers-at h (take i ps)) ≤ length (subscribers-at h (take n ps)) = rw (sym (take-take i n ps l)) (at-part h i (take n ps)) in
     omega (arith, at-kept h q (take i ps), part, few h)
+
+-- so has the front of a list that is being filtered
+pub few-keeping : {C : Type 0} {q : Subscription C → Bool} {ps qs : List (Subscription C)} {k i : ℕ} (n : ℕ) → Keeping q ps qs k i → i ≤ n → Few (take n ps) → Few (take k qs)
+few-keeping {C} {q} {ps} {qs} {k} {i} n kept l few = subst Few (sym (kept .front)) (few-kept q ps i n l few)
+
+-- and a list that takes one more of a handle that has less than it may have
+pub few-push : {C : Type 0} (ps : List (Subscription C)) (p : Subscription C) → length (subscribers-at (p .handle .0) ps) < limit → Few ps → Few (ps ++ p ∷ [])
+few-push ps p room few h =
+    let long : length (subscribers-at h (ps ++ p ∷ [])) ≡ length (subscribers-at h ps) + length (subscribers-at h (p ∷ [])) = ap length (at-append h ps (p ∷ [])) ∙ length-append (subscribers-at h ps) (subscribers-at h (p ∷ [])) in
+    let old = few h in
+    elim (cases-eq (p .handle .0) h) [
+      inl e ↦ (
+        let here : length (subscribers-at h ps) < limit = subst (λ k. length (subscribers-at k ps) < limit) e room in
+        let one : length (subscribers-at h (p ∷ [])) ≡ 1 = ap (λ b. length (cond b (p .subscriber ∷ []) [])) (eq-eqb _ _ e) in
+        omega arith)
+    | inr ne ↦ (
+        let none : length (subscribers-at h (p ∷ [])) ≡ 0 = ap (λ b. length (cond b (p .subscriber ∷ []) [])) (ne-eqb _ _ ne) in
+        omega arith) ]

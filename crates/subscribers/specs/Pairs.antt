@@ -33,6 +33,10 @@ module _ {C : Type 0} (id : C → List ℕ) where
   others x ps = kept-by (λ p. not (same-pair (standing-of p) x)) ps
 
 module _ {C : Type 0} where
+  -- a pair of the code
+  abbrev pub subscription : Handle → Subscriber C → Subscription C
+  subscription h s = record { handle = h; subscriber = s }
+
   -- the subscribers of a handle, in their order
   abbrev pub subscribers-at : ℕ → List (Subscription C) → List (Subscriber C)
   subscribers-at h [] = []

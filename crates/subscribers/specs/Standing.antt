@@ -75,3 +75,9 @@ abbrev pub joined-by : {X : Type 0} → Joined → X → List X → List X
 joined-by joined.Added x l = l ++ x ∷ []
 joined-by joined.Standing x l = l
 joined-by joined.NoPlace x l = l
+
+-- one who was told this has a place in the list
+abbrev pub has-place : Joined → Bool
+has-place joined.Added = true
+has-place joined.Standing = true
+has-place joined.NoPlace = false

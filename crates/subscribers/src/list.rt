@@ -6,6 +6,7 @@ ghost use lib.ListN.{length, take};
 use crate::subscription::Subscription;
 
 mod asks;
+mod changes;
 mod scan;
 
 // The most subscribers that one topic may have.
