@@ -1,3 +1,4 @@
+pub mod Chosen
 pub mod Leaving
 pub mod Places
 pub mod Sameness

@@ -1,12 +1,13 @@
 // What the subscriber list answers, changing nothing.
-ghost use Prim.Native.Nat.{ℕ};
+ghost use Prim.Native.Nat.{ℕ, _≤_};
 ghost use Rattle.clients.specs.Subs.{sub-of};
 ghost use Rattle.std.specs.Options.{isSome};
+ghost use Rattle.std.specs.Vec.{made};
 ghost use Rattle.subscribers.specs.Held.{pairs, room, standings};
 ghost use Rattle.subscribers.specs.Pairs.{collect-answer, collect-buffer, pair-of, subscribers-at};
-ghost use Rattle.subscribers.specs.Standing.{join-answer, place, stands};
-ghost use lib.ListN.{length};
-ghost use mathlib.Core.List.{[]};
+ghost use Rattle.subscribers.specs.Standing.{join-answer, limit, place, stands, subs-at};
+ghost use lib.ListN.{length, take};
+ghost use mathlib.Core.List.{[], map};
 ghost use mathlib.Core.Path.{_≡_};
 use super::LIMIT;
 use super::Subscribers;
@@ -54,7 +55,9 @@ impl<'a, C: Client> Subscribers<'a, C> {
 
     // How many subscribers the topic has.
     pub fn count(&self, handle: Handle) -> usize
-        ensures { λ r. ⌜ r ≡ length (subscribers-at (handle .0) (pairs (now (self .entry)))) ⌝ }
+        ensures answer { λ r. ⌜ r ≡ length (subscribers-at (handle .0) (pairs (now (self .entry)))) ⌝ }
+        ensures standing { λ r. ⌜ r ≡ length (subs-at (handle .0) (standings (C·Client .identity) (now (self .entry)))) ⌝ }
+        ensures few { λ r. ⌜ r ≤ limit ⌝ }
     {
         let n = self.len;
         count_in(&self.places[0..n], handle)
@@ -80,6 +83,8 @@ impl<'a, C: Client> Subscribers<'a, C> {
     pub fn collect(&self, handle: Handle, work: &mut [Subscriber<C>]) -> Result<usize, Refusal>
         ensures answer { λ r. ⌜ r ≡ collect-answer (handle .0) (pairs (now (self .entry))) (length (now (work .entry))) ⌝ }
         ensures buffer { λ _. ⌜ now (work .exit) ≡ collect-buffer (handle .0) (pairs (now (self .entry))) (now (work .entry)) ⌝ }
+        ensures standing { λ r. ⌜ made r (λ n. map (sub-of (C·Client .identity)) (take n (now (work .exit))) ≡ subs-at (handle .0) (standings (C·Client .identity) (now (self .entry)))) ⌝ }
+        ensures few { λ r. ⌜ made r (λ n. n ≤ limit) ⌝ }
     {
         if work.len() < LIMIT {
             return Err(Refusal::ShortBuffers);

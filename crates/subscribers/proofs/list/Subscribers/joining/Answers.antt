@@ -1,9 +1,9 @@
 use mathlib.Core.Logic.{inl, inr}
 use mathlib.Core.Path.{refl, sym, _∙_}
 use native.Mathlib.Omega.{arith}
-use Rattle.subscribers.specs.Held.{pairs, room, standings}
+use Rattle.subscribers.specs.Held.{room, standings}
 use Rattle.subscribers.specs.Pairs.{pair-of}
-use Rattle.subscribers.proofs.Standings.{count-standings, length-standings, told-added, told-no-place}
+use Rattle.subscribers.proofs.Standings.{length-standings, told-added, told-no-place}
 use Rattle.subscribers.proofs.list.Subscribers.joining.Needs as need
 
 pub returns-then-self : need.returns-then-self
@@ -21,8 +21,7 @@ returns-then-count-ge-LIMIT g c =
     let s = c .args .self .now in
     let x = pair-of id (c .args .handle) (c .args .subscriber .now) in
     let new = sym (c .find .ensures .stands) ∙ sym (c .if-is-some .ensures tt) in
-    let many = c .count .ensures ∙ sym (count-standings id (c .args .handle .0) (pairs s)) in
-    told-no-place (standings id s) (room s) x (c .count .result) _ new many refl (inl (omega arith))
+    told-no-place (standings id s) (room s) x (c .count .result) _ new (c .count .ensures .standing) refl (inl (omega arith))
 
 pub returns : need.returns
 returns g c =
@@ -30,6 +29,5 @@ returns g c =
     let s = c .args .self .now in
     let x = pair-of id (c .args .handle) (c .args .subscriber .now) in
     let new = sym (c .find .ensures .stands) ∙ sym (c .if-is-some .ensures tt) in
-    let many = c .count .ensures ∙ sym (count-standings id (c .args .handle .0) (pairs s)) in
     let all = length-standings id (s .len) (s .places .now) (s .within) in
-    told-added (standings id s) (room s) x (c .count .result) (s .len) new many all (omega arith) (omega arith)
+    told-added (standings id s) (room s) x (c .count .result) (s .len) new (c .count .ensures .standing) all (omega arith) (omega arith)
