@@ -1,14 +1,14 @@
 -- What is left of a list when pairs leave it.
-use Prim.Native.Nat.{ℕ, suc, _+_, _-_, _≤_, _<_}
+use Prim.Native.Nat.{ℕ, suc, _+_, _-_, _≤_}
 use native.Mathlib.Omega.{arith}
 use mathlib.Core.Bool.{Bool, true, false, cond, not, _||_}
-use mathlib.Core.List.{List, [], _∷_, _++_, map}
+use mathlib.Core.List.{List, [], _∷_}
 use mathlib.Core.Path.{_≡_, refl, sym, ap, subst, _∙_}
 use lib.Dec.{eqb, ltb}
 use lib.ListN.{length, take}
 use Rattle.std.specs.shelf.Lists.{kept-by}
-use Rattle.std.proofs.shelf.Lists.{length-map, length-take-le}
-use Rattle.std.proofs.shelf.Tests.{eq-eqb, ne-eqb, le-ltb, lt-ltb, or-from, or-parts}
+use Rattle.std.proofs.shelf.Lists.{length-take-le}
+use Rattle.std.proofs.shelf.Tests.{lt-ltb, or-from, or-parts}
 use Rattle.std.proofs.shelf.Ways.{tells}
 use Rattle.subscribers.specs.declared.subscription.Subscription.{Subscription}
 use Rattle.subscribers.specs.Pairs.{elsewhere, others, standing-of, standings-of, subscribers-at}

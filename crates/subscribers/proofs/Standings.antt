@@ -1,18 +1,16 @@
 -- Who stands subscribed, from the pairs of the code.
-use Prim.Native.Nat.{ℕ, _+_, _≤_, _<_}
+use Prim.Native.Nat.{ℕ, _≤_, _<_}
 use native.Mathlib.Omega.{arith}
-use mathlib.Core.Bool.{Bool, true, false, cond, not, _||_}
+use mathlib.Core.Bool.{Bool, true, false, cond, _||_}
 use mathlib.Core.List.{List, [], _∷_, _++_, map}
 use mathlib.Core.Logic.{_⊎_, inl, inr}
 use mathlib.Core.Path.{_≡_, refl, sym, ap, _∙_}
-use lib.Dec.{eqb, leb}
+use lib.Dec.{leb}
 use lib.ListN.{length, take}
-use Rattle.std.specs.shelf.Lists.{kept-by}
 use Rattle.std.proofs.shelf.Lists.{length-map, length-take-le}
 use Rattle.std.proofs.shelf.Tests.{le-leb, leb-false, lt-leb, or-from, or-left, or-parts, or-right}
 use Rattle.std.proofs.shelf.Ways.{tells}
-use Rattle.clients.specs.Subs.{Sub, sub-of}
-use Rattle.subscribers.specs.declared.joined.Joined.{Joined}
+use Rattle.clients.specs.Subs.{sub-of}
 use Rattle.subscribers.specs.declared.joined.Joined.the-variants as joined
 use Rattle.subscribers.specs.declared.subscription.Subscription.{Subscription}
 use Rattle.subscribers.specs.Pairs.{standing-of, standings-of, subscribers-at}

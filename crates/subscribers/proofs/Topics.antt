@@ -1,7 +1,7 @@
 -- The subscribers of a handle: in a longer list, in a part, and among those that are kept.
 use Prim.Native.Nat.{ℕ, zero, suc, _+_, _≤_, _<_}
 use native.Mathlib.Omega.{arith}
-use mathlib.Core.Bool.{Bool, true, false, cond, not}
+use mathlib.Core.Bool.{Bool, cond}
 use mathlib.Core.List.{List, [], _∷_, _++_, append-assoc}
 use mathlib.Core.Logic.{inl, inr}
 use mathlib.Core.Path.{_≡_, refl, sym, ap, subst, _∙_}
@@ -9,10 +9,9 @@ use lib.Dec.{eqb}
 use lib.ListN.{length, getD, take, drop, set, length-append}
 use Rattle.std.specs.shelf.Lists.{kept-by}
 use Rattle.std.proofs.shelf.Filters.{Keeping}
-use Rattle.std.proofs.shelf.Lists.{take-more, take-take, append-nil, drop-more, set-at, length-push}
+use Rattle.std.proofs.shelf.Lists.{take-more, take-take, drop-more, set-at, length-push}
 use Rattle.std.proofs.shelf.Tests.{cases-eq, eq-eqb, ne-eqb}
 use Rattle.std.proofs.shelf.Ways.{tells}
-use Rattle.clients.specs.declared.subscriber.Subscriber.{Subscriber}
 use Rattle.subscribers.specs.declared.subscription.Subscription.{Subscription}
 use Rattle.subscribers.specs.Pairs.{Few, laid, subscribers-at}
 use Rattle.subscribers.specs.Standing.{limit}
@@ -71,10 +70,11 @@ few-push ps p room few h =
     let long : length (subscribers-at h (ps ++ p ∷ [])) ≡ length (subscribers-at h ps) + length (subscribers-at h (p ∷ [])) = ap length (at-append h ps (p ∷ [])) ∙ length-append (subscribers-at h ps) (subscribers-at h (p ∷ [])) in
     let old = few h in
     elim (cases-eq (p .handle .0) h) [
-      inl e ↦ (
-        let here : length (subscribers-at h ps) < limit = subst (λ k. length (subscribers-at k ps) < limit) e room in
-        let one : length (subscribers-at h (p ∷ [])) ≡ 1 = ap (λ b. length (cond b (p .subscriber ∷ []) [])) (eq-eqb _ _ e) in
-        omega arith)
-    | inr ne ↦ (
-        let none : length (subscribers-at h (p ∷ [])) ≡ 0 = ap (λ b. length (cond b (p .subscriber ∷ []) [])) (ne-eqb _ _ ne) in
-        omega arith) ]
+      | inl e ↦ (
+          let here : length (subscribers-at h ps) < limit = subst (λ k. length (subscribers-at k ps) < limit) e room in
+          let one : length (subscribers-at h (p ∷ [])) ≡ 1 = ap (λ b. length (cond b (p .subscriber ∷ []) [])) (eq-eqb _ _ e) in
+          omega arith)
+      | inr ne ↦ (
+          let none : length (subscribers-at h (p ∷ [])) ≡ 0 = ap (λ b. length (cond b (p .subscriber ∷ []) [])) (ne-eqb _ _ ne) in
+          omega arith)
+    ]

@@ -1,5 +1,4 @@
 // One pair of the subscriber list.
-ghost use Rattle.clients.specs.Subs.{sub-of};
 ghost use Rattle.std.specs.Orderings.{Decides};
 ghost use Rattle.subscribers.specs.Standing.{same-pair};
 ghost use Rattle.subscribers.specs.Pairs.{pair-of, standing-of};

@@ -1,5 +1,5 @@
 // What the subscriber list answers, changing nothing.
-ghost use Prim.Native.Nat.{ℕ, _≤_};
+ghost use Prim.Native.Nat.{_≤_};
 ghost use Rattle.clients.specs.Subs.{sub-of};
 ghost use Rattle.std.specs.Options.{isSome};
 ghost use Rattle.std.specs.Vec.{made};
@@ -70,7 +70,7 @@ impl<'a, C: Client> Subscribers<'a, C> {
         if self.find(handle, subscriber).is_some() {
             return Joined::Standing;
         }
-        if self.len >= self.places.len() {
+        if self.len >= self.places() {
             return Joined::NoPlace;
         }
         if self.count(handle) >= LIMIT {

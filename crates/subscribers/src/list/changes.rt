@@ -48,9 +48,9 @@ impl<'a, C: Client> Subscribers<'a, C> {
         let n = self.len;
         self.len = 0;
         for i in 0..n {
-            let pair = self.places[i];
-            if !pair.is(handle, subscriber) {
-                self.places[self.len] = pair;
+            let one = self.places[i];
+            if !one.is(handle, subscriber) {
+                self.places[self.len] = one;
                 self.len += 1;
             }
         }
@@ -67,15 +67,15 @@ impl<'a, C: Client> Subscribers<'a, C> {
         ensures once { λ _. ⌜ (Once (standings (C·Client .identity) (now (self .entry))) → Once (standings (C·Client .identity) (now (self .exit)))) ⌝ }
         ensures capacity { λ _. ⌜ room (now (self .exit)) ≡ room (now (self .entry)) ⌝ }
     {
-        let n = self.len;
+        let before = self.len;
         self.len = 0;
-        for i in 0..n {
+        for i in 0..before {
             let pair = self.places[i];
             if pair.handle.0 != handle.0 {
                 self.places[self.len] = pair;
                 self.len += 1;
             }
         }
-        n - self.len
+        before - self.len
     }
 }

@@ -1,5 +1,5 @@
 // Walks over pairs, from the first to the last.
-ghost use Prim.Native.Nat.{ℕ, _≤_};
+ghost use Prim.Native.Nat.{_≤_};
 ghost use Rattle.subscribers.specs.Pairs.{laid, pair-of, standings-of, subscribers-at};
 ghost use Rattle.subscribers.specs.Standing.{place};
 ghost use lib.ListN.{length};
@@ -29,13 +29,13 @@ pub fn find_in<C: Client>(
 pub fn count_in<C: Copy>(pairs: &[Subscription<C>], handle: Handle) -> usize
     ensures { λ r. ⌜ r ≡ length (subscribers-at (handle .0) (now (pairs .entry))) ⌝ }
 {
-    let mut n = 0;
-    for pair in pairs {
-        if pair.handle.0 == handle.0 {
-            n += 1;
+    let mut count = 0;
+    for one in pairs {
+        if one.handle.0 == handle.0 {
+            count += 1;
         }
     }
-    n
+    count
 }
 
 // Copies the handle's subscribers to the front of the work list, and tells how many they are.

@@ -1,12 +1,11 @@
 use Prim.Native.Nat.{_<_}
-use mathlib.Core.List.{_++_, _∷_, []}
-use mathlib.Core.Path.{_≡_, sym, ap, subst, _∙_}
+use mathlib.Core.Path.{sym, ap, subst, _∙_}
 use native.Mathlib.Omega.{arith}
-use lib.ListN.{length, length-set, take}
+use lib.ListN.{length, length-set}
 use Rattle.std.proofs.shelf.Lists.{map-push, take-more-set}
 use Rattle.subscribers.specs.Held.{pairs, room, standings}
 use Rattle.subscribers.specs.Pairs.{Few, pair-of, standing-of, standings-of, subscription}
-use Rattle.subscribers.specs.Standing.{Once, limit, stands}
+use Rattle.subscribers.specs.Standing.{Once, stands}
 use Rattle.subscribers.proofs.Standings.{added-facts, count-standings, length-standings, once-push, stands-push}
 use Rattle.subscribers.proofs.Topics.{few-push}
 use Rattle.subscribers.proofs.list.Subscribers.add.Needs as need
@@ -44,4 +43,5 @@ returns-in-Added g c =
       standing = standing;
       stands = ap (λ l. stands l x) standing ∙ stands-push (standings id s) x;
       once = (λ once. subst Once (sym standing) (once-push (standings id s) x (facts .0) once));
-      capacity = length-set (s .places .now) (s .len) p }
+      capacity = length-set (s .places .now) (s .len) p;
+    }

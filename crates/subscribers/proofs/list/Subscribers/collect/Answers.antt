@@ -1,5 +1,3 @@
-use Prim.Native.Nat.{_≤_}
-use mathlib.Core.Bool.{cond}
 use mathlib.Core.List.{map}
 use mathlib.Core.Path.{_≡_, sym, ap, _∙_}
 use native.Mathlib.Numerals.{unary-clauses}
@@ -34,4 +32,5 @@ returns g c =
       answer = ap Ok count ∙ sym (cond-true _ _ _ long);
       buffer = filled ∙ sym (cond-true _ _ _ long);
       standing = ap (λ w. map (sub-of id) (take (c .collect-in .result) w)) filled ∙ ap (map (sub-of id)) (take-at those (drop (length those) work) (c .collect-in .result) (sym count)) ∙ sym (subs-standings id h (pairs s));
-      few = omega (arith, s .few h) }
+      few = omega (arith, s .few h);
+    }

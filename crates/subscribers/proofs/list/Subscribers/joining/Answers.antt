@@ -6,8 +6,8 @@ use Rattle.subscribers.specs.Pairs.{pair-of}
 use Rattle.subscribers.proofs.Standings.{length-standings, told-added, told-no-place}
 use Rattle.subscribers.proofs.list.Subscribers.joining.Needs as need
 
-pub returns-then-self : need.returns-then-self
-returns-then-self g c =
+pub returns-then-self-places : need.returns-then-self-places
+returns-then-self-places g c =
     let id = g .C·Client .identity in
     let s = c .args .self .now in
     let x = pair-of id (c .args .handle) (c .args .subscriber .now) in

@@ -34,8 +34,9 @@ loop-i-again g c =
     let inside : i < length ys = omega (arith, c .loop-i .inv .long, c .args .self .now .within) in
     let P : Subscribers (g .C .Denot) → Type 0 = λ s. Keeping (λ p. not (same-pair (standing-of id p) (pair-of id (c .args .handle) (c .args .subscriber .now)))) (c .args .self .now .places .now) (s .places .now) (s .len) (i + 1) in
     elim (c .if-not-is .came) [
-      then-not-is w ↦ subst P (sym (w .self-is)) (keeping-more-set {x = x} (c .loop-i .inv) inside (ap not (sym (w .if-not-is .ensures tt .answer))) (ap (getD ys i) (c .index-self-i .is)))
-    | else-not-is w ↦ subst P (sym (w .self-is)) (keeping-more-no {x = x} (c .loop-i .inv) inside (ap not (sym (w .if-not-is .ensures tt .answer))) (ap (getD ys i) (c .index-self-i .is))) ]
+      | then-not-is w ↦ subst P (sym (w .self-is)) (keeping-more-set {x = x} (c .loop-i .inv) inside (ap not (sym (w .if-not-is .ensures tt .answer))) (ap (getD ys i) (c .index-self-i .is)))
+      | else-not-is w ↦ subst P (sym (w .self-is)) (keeping-more-no {x = x} (c .loop-i .inv) inside (ap not (sym (w .if-not-is .ensures tt .answer))) (ap (getD ys i) (c .index-self-i .is)))
+    ]
 
 pub returns : need.returns
 returns g c =
@@ -59,4 +60,5 @@ returns g c =
       rest = (λ z ne. ap (λ m. stands m z) standing ∙ without-rest x l z ne);
       one = (λ once. omega (arith, left, short, long, without-one x l once, length-take-le (t .len) (t .places .now) (t .within), length-take-le (s .len) (s .places .now) (s .within)));
       once = (λ once. subst (λ ps. Once (standings-of id ps)) (sym after) (once-kept id _ (pairs s) once));
-      capacity = c .loop-i .inv .long }
+      capacity = c .loop-i .inv .long;
+    }

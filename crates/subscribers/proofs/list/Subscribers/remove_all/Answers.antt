@@ -1,14 +1,12 @@
-use Prim.Native.Nat.{_+_, _<_, _≤_}
-use mathlib.Core.Bool.{Bool, not, true}
+use Prim.Native.Nat.{_+_, _<_}
+use mathlib.Core.Bool.{not}
 use mathlib.Core.Path.{_≡_, sym, ap, subst, _∙_}
 use native.Mathlib.Omega.{arith}
 use lib.Dec.{eqb}
 use lib.ListN.{getD, length, take}
-use Rattle.std.specs.shelf.Lists.{kept-by}
 use Rattle.std.proofs.shelf.Filters.{Keeping, keeping-more-no, keeping-more-set}
 use Rattle.std.proofs.shelf.Tests.{eq-eqb, ne-eqb}
 use Rattle.subscribers.specs.declared.list.Subscribers.{Subscribers}
-use Rattle.subscribers.specs.declared.subscription.Subscription.{Subscription}
 use Rattle.subscribers.specs.Held.{pairs}
 use Rattle.subscribers.specs.Pairs.{elsewhere, standings-of, subscribers-at}
 use Rattle.subscribers.specs.Standing.{Once}
@@ -34,8 +32,9 @@ loop-i-again g c =
     let inside : i < length ys = omega (arith, c .loop-i .inv .long, c .args .self .now .within) in
     let P : Subscribers (g .C .Denot) → Type 0 = λ s. Keeping (λ p. not (eqb (p .handle .0) (c .args .handle .0))) (c .args .self .now .places .now) (s .places .now) (s .len) (i + 1) in
     elim (c .if-pair-handle .came) [
-      then-pair-handle w ↦ subst P (sym (w .self-is)) (keeping-more-set {x = x} (c .loop-i .inv) inside (ap not (ne-eqb _ _ (w .if-pair-handle .taken))) (ap (getD ys i) (c .index-self-i .is)))
-    | else-pair-handle w ↦ subst P (sym (w .self-is)) (keeping-more-no {x = x} (c .loop-i .inv) inside (ap not (eq-eqb _ _ (w .if-pair-handle .left))) (ap (getD ys i) (c .index-self-i .is))) ]
+      | then-pair-handle w ↦ subst P (sym (w .self-is)) (keeping-more-set {x = x} (c .loop-i .inv) inside (ap not (ne-eqb _ _ (w .if-pair-handle .taken))) (ap (getD ys i) (c .index-self-i .is)))
+      | else-pair-handle w ↦ subst P (sym (w .self-is)) (keeping-more-no {x = x} (c .loop-i .inv) inside (ap not (eq-eqb _ _ (w .if-pair-handle .left))) (ap (getD ys i) (c .index-self-i .is)))
+    ]
 
 pub returns : need.returns
 returns g c =
@@ -52,4 +51,5 @@ returns g c =
       gone = ap (subscribers-at h) after ∙ elsewhere-gone h (pairs (c .args .self .now));
       rest = (λ k ne. ap (subscribers-at k) after ∙ elsewhere-rest h k ne (pairs (c .args .self .now)));
       once = (λ once. subst (λ ps. Once (standings-of id ps)) (sym after) (once-kept id _ (pairs (c .args .self .now)) once));
-      capacity = c .loop-i .inv .long }
+      capacity = c .loop-i .inv .long;
+    }

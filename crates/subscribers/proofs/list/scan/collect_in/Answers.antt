@@ -37,16 +37,18 @@ loop-pair-again g c =
     let buf = c .args .work .now in
     let those = subscribers-at h (take i ps) in
     elim (c .if-pair-handle .came) [
-      then-pair-handle w ↦ (
-        let yes = at-more-yes h ps i p (c .loop-pair-test .taken) (c .pair-item .is) (w .if-pair-handle .taken) in
-        let more = at-below h ps i p (c .loop-pair-test .taken) (c .pair-item .is) (w .if-pair-handle .taken) in
-        let within : n < length buf = omega arith in
-        (w .n-is ∙ ap (λ k. k + 1) (c .loop-pair .inv .0) ∙ sym (length-push those (p .subscriber)) ∙ ap length (sym yes),
-         w .work-is ∙ ap (λ ws. set ws n (p .subscriber)) (c .loop-pair .inv .1) ∙ laid-more those buf n (p .subscriber) (c .loop-pair .inv .0) within ∙ ap (λ t. laid t buf) (sym yes)))
-    | else-pair-handle w ↦ (
-        let s = at-more h ps i p (c .loop-pair-test .taken) (c .pair-item .is) in
-        let t = ne-eqb _ _ (w .if-pair-handle .left) in
-        ((grind (arith, append-nil)), (grind (arith, append-nil)))) ]
+      | then-pair-handle w ↦ (
+          let yes = at-more-yes h ps i p (c .loop-pair-test .taken) (c .pair-item .is) (w .if-pair-handle .taken) in
+          let more = at-below h ps i p (c .loop-pair-test .taken) (c .pair-item .is) (w .if-pair-handle .taken) in
+          let within : n < length buf = omega arith in (
+            w .n-is ∙ ap (λ k. k + 1) (c .loop-pair .inv .0) ∙ sym (length-push those (p .subscriber)) ∙ ap length (sym yes),
+            w .work-is ∙ ap (λ ws. set ws n (p .subscriber)) (c .loop-pair .inv .1) ∙ laid-more those buf n (p .subscriber) (c .loop-pair .inv .0) within ∙ ap (λ t. laid t buf) (sym yes),
+          ))
+      | else-pair-handle w ↦ (
+          let s = at-more h ps i p (c .loop-pair-test .taken) (c .pair-item .is) in
+          let t = ne-eqb _ _ (w .if-pair-handle .left) in
+          ((grind (arith, append-nil)), (grind (arith, append-nil))))
+    ]
 
 pub returns : need.returns
 returns g c = search (needs, take-all)

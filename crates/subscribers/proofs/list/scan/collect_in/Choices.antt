@@ -1,6 +1,5 @@
-use mathlib.Core.List.{_++_}
 use mathlib.Core.Path.{_≡_}
-use lib.ListN.{length, take, drop}
+use lib.ListN.{length, take}
 use Rattle.subscribers.specs.Pairs.{laid, subscribers-at}
 use Rattle.subscribers.proofs.list.scan.collect_in.Given as given
 

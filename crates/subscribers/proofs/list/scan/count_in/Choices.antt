@@ -4,5 +4,5 @@ use lib.ListN.{length, take}
 use Rattle.subscribers.specs.Pairs.{subscribers-at}
 use Rattle.subscribers.proofs.list.scan.count_in.Given as given
 
-abbrev pub Inv-loop-pair : given.InvT-loop-pair
-Inv-loop-pair g l = (l .n ≡ length (subscribers-at (l .handle .0) (take (l .pair-index) (l .pairs)))) × (l .n ≤ l .pair-index)
+abbrev pub Inv-loop-one : given.InvT-loop-one
+Inv-loop-one g l = (l .count ≡ length (subscribers-at (l .handle .0) (take (l .one-index) (l .pairs)))) × (l .count ≤ l .one-index)
