@@ -2,6 +2,7 @@
 use Prim.Native.Nat.{ℕ}
 use mathlib.Core.Bool.{Bool, true, false, cond}
 use mathlib.Core.List.{List, [], _∷_, _++_}
+use mathlib.Core.Path.{_≡_}
 use lib.Dec.{leb}
 use lib.ListN.{length, take, drop}
 use Rattle.std.specs.declared.option.Option.{Option}
@@ -68,3 +69,9 @@ module _ {C : Type 0} where
   taken (Ok None) = false
   taken (Ok (Some m)) = true
   taken (Err e) = false
+
+  -- a message and the buffer with its payload, before and after, give a note whole
+  pub record Gives (id : C → List ℕ) (n : Note) (m : Message C) (before after : List ℕ) : Type 0 where
+    pub note : said id (Ok (Some m)) after ≡ Ok (Some n)
+    pub len : m .len ≡ length (n .payload)
+    pub buffer : after ≡ n .payload ++ drop (length (n .payload)) before

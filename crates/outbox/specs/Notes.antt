@@ -1,7 +1,8 @@
 -- Messages by what they mean, and batches of them.
 use Prim.Native.Nat.{ℕ}
-use mathlib.Core.Bool.{Bool, _&&_}
+use mathlib.Core.Bool.{Bool, true, _&&_}
 use mathlib.Core.List.{List, [], _∷_}
+use mathlib.Core.Path.{_≡_}
 use lib.Dec.{leb}
 use Rattle.clients.specs.Subs.{Sub, sub-of}
 use Rattle.clients.specs.declared.subscriber.Subscriber.{Subscriber}
@@ -21,3 +22,8 @@ notes-of id c p (s ∷ ss) = record { to = sub-of id s; content = c; payload = p
 -- a batch of n subscribers with l bytes of payload is of a size that an outbox takes
 abbrev pub proper-batch : ℕ → ℕ → Bool
 proper-batch n l = leb 1 n && leb n 100 && leb l 256
+
+-- what fits, where these notes wait: only batches of a proper size, and with nothing waiting every one of them
+pub record Sound (waiting : List Note) (fits : ℕ → ℕ → Bool) : Type 0 where
+  pub proper : (n l : ℕ) → fits n l ≡ true → proper-batch n l ≡ true
+  pub roomy : waiting ≡ [] → (n l : ℕ) → proper-batch n l ≡ true → fits n l ≡ true

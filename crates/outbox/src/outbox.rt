@@ -1,11 +1,11 @@
 // The trait of outboxes: every method is an equality on the list of waiting notes.
 ghost use Prim.Native.Nat.{ℕ};
-ghost use mathlib.Core.Bool.{Bool, true, false, cond};
-ghost use mathlib.Core.List.{List, [], _++_};
+ghost use mathlib.Core.Bool.{Bool, false, cond};
+ghost use mathlib.Core.List.{List, _++_};
 ghost use mathlib.Core.Path.{_≡_};
 ghost use lib.ListN.{length};
 ghost use Rattle.std.specs.Results.{isOk};
-ghost use Rattle.outbox.specs.Notes.{Note, proper-batch, notes-of};
+ghost use Rattle.outbox.specs.Notes.{Note, Sound, proper-batch, notes-of};
 ghost use Rattle.outbox.specs.Answers.{post-answer, take-answer, take-len, take-buffer, rest, said, said-len, taken};
 use crate::message::Content;
 use crate::message::Message;
@@ -27,13 +27,10 @@ pub trait Outbox<C: Client> {
     // whether a batch for so many subscribers, with a payload of so many bytes, fits
     ghost fits: { Self → ℕ → ℕ → Bool };
 
-    law proper: { (s : Self) (n l : ℕ) → fits s n l ≡ true → proper-batch n l ≡ true };
-
-    law roomy: { (s : Self) (n l : ℕ) → waiting s ≡ [] → proper-batch n l ≡ true → fits s n l ≡ true };
-
     // Whether a batch for so many subscribers, with a payload of so many bytes, fits.
     fn has_room(&self, count: usize, len: usize) -> bool
-        ensures { λ r. ⌜ r ≡ fits (now (self .entry)) count len ⌝ };
+        ensures answer { λ r. ⌜ r ≡ fits (now (self .entry)) count len ⌝ }
+        ensures sound { λ _. ⌜ Sound (waiting (now (self .entry))) (fits (now (self .entry))) ⌝ };
 
     // Puts a batch behind what waits, one message for each subscriber in their order, or refuses it whole.
     fn post(
@@ -44,7 +41,8 @@ pub trait Outbox<C: Client> {
     ) -> Result<(), Refusal>
         ensures answer { λ r. ⌜ r ≡ post-answer (fits (now (self .entry))) (length (now (to .entry))) (length (now (payload .entry))) ⌝ }
         ensures after { λ r. ⌜ waiting (now (self .exit)) ≡ cond (isOk r) (waiting (now (self .entry)) ++ notes-of (C·Client .identity) content (now (payload .entry)) (now (to .entry))) (waiting (now (self .entry))) ⌝ }
-        ensures same { λ r. ⌜ (isOk r ≡ false → (n l : ℕ) → fits (now (self .exit)) n l ≡ fits (now (self .entry)) n l) ⌝ };
+        ensures same { λ r. ⌜ (isOk r ≡ false → (n l : ℕ) → fits (now (self .exit)) n l ≡ fits (now (self .entry)) n l) ⌝ }
+        ensures sound { λ _. ⌜ Sound (waiting (now (self .entry))) (fits (now (self .entry))) ⌝ };
 
     // Removes the oldest message, if one waits, and writes its payload to the front of the buffer.
     fn take(&mut self, out: &mut [u8]) -> Result<Option<Message<C>>, Refusal>
