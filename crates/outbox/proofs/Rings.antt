@@ -2,13 +2,13 @@
 use mathlib.Core.Path.{_≡_, refl, sym, ap, _∙_}
 use mathlib.Core.Bool.{cond}
 use mathlib.Core.Logic.{inl, inr}
-use mathlib.Core.List.{List, [], _∷_, _++_, map}
+use mathlib.Core.List.{List, [], _∷_, _++_}
 use Prim.Native.Nat.{ℕ, zero, suc, _+_, _-_, _<_, _≤_}
 use native.Mathlib.Numerals.{add-one}
 use native.Mathlib.Omega.{arith}
 use lib.Dec.{ltb}
 use lib.ListN.{length, take, drop, set, getD}
-use Rattle.std.proofs.shelf.Lists.{append-assoc, append-nil, take-append-le, take-more, take-more-set, take-take, take-all, take-set-le, drop-more, drop-all, drop-set-add, drop-set-lt, set-append-left, set-append-right, length-append, length-take, length-drop, length-take-le, map-push}
+use Rattle.std.proofs.shelf.Lists.{append-assoc, append-nil, take-append-le, take-more, take-more-set, take-take, take-all, take-set-le, drop-more, drop-all, drop-set-add, drop-set-lt, set-append-left, set-append-right, length-append, length-take, length-drop, length-take-le}
 use Rattle.std.proofs.shelf.Tests.{cases-lt, cond-true, cond-false, lt-ltb, le-ltb}
 use Rattle.outbox.specs.Rings.{around, ring, place}
 
@@ -94,23 +94,17 @@ module _ {X : Type 0} where
             ∙ ap (λ p. ring p n xs) (sym wraps))
       ]
 
--- rings seen through what each element means
-module _ {X Y : Type 0} (f : X → Y) where
-  pub map-ring-push : (s n p : ℕ) (xs ys : List X) (x : X) (y : Y) → s < length xs → n < length xs
-      → p ≡ place s n (length xs) → ys ≡ set xs p x → f x ≡ y
-      → map f (ring s (n + 1) ys) ≡ map f (ring s n xs) ++ y ∷ []
-  map-ring-push s n p xs ys x y h m at e g =
-      ap (λ l. map f (ring s (n + 1) l)) (e ∙ ap (λ k. set xs k x) at)
-      ∙ ap (map f) (ring-push s n xs x h m)
-      ∙ map-push f (ring s n xs) x
-      ∙ ap (λ z. map f (ring s n xs) ++ z ∷ []) g
+  -- one element more, where it is written to its place
+  pub ring-in : (s n p : ℕ) (xs ys : List X) (x : X) → s < length xs → n < length xs → p ≡ place s n (length xs) → ys ≡ set xs p x
+      → ring s (n + 1) ys ≡ ring s n xs ++ x ∷ []
+  ring-in s n p xs ys x h m at e = ap (ring s (n + 1)) (e ∙ ap (λ k. set xs k x) at) ∙ ring-push s n xs x h m
 
-  pub map-ring-first : (s n p : ℕ) (xs : List X) (x : X) → s < length xs → 0 < n → n ≤ length xs
-      → p ≡ place s 1 (length xs) → x ≡ getD xs s x
-      → map f (ring s n xs) ≡ f x ∷ map f (ring p (n - 1) xs)
-  map-ring-first s n p xs x h some m at e =
+  -- the first element, as it is read, and those behind it
+  pub ring-out : (s n p : ℕ) (xs : List X) (x : X) → s < length xs → 0 < n → n ≤ length xs → p ≡ place s 1 (length xs) → x ≡ getD xs s x
+      → ring s n xs ≡ x ∷ ring p (n - 1) xs
+  ring-out s n p xs x h some m at e =
       let one : n ≡ (n - 1) + 1 = omega arith in
-      ap (λ k. map f (ring s k xs)) one
-      ∙ ap (map f) (ring-first s (n - 1) xs x h (omega arith))
-      ∙ ap (λ z. f z ∷ map f (ring (place s 1 (length xs)) (n - 1) xs)) (sym e)
-      ∙ ap (λ k. f x ∷ map f (ring k (n - 1) xs)) (sym at)
+      ap (λ k. ring s k xs) one
+      ∙ ring-first s (n - 1) xs x h (omega arith)
+      ∙ ap (λ z. z ∷ ring (place s 1 (length xs)) (n - 1) xs) (sym e)
+      ∙ ap (λ k. x ∷ ring k (n - 1) xs) (sym at)

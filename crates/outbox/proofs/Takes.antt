@@ -13,9 +13,7 @@ use Rattle.std.specs.declared.result.Result.the-variants.{Ok, Err}
 use Rattle.std.proofs.shelf.Lists.{take-all, take-at, length-take-le}
 use Rattle.std.proofs.shelf.Tests.{le-leb}
 use Rattle.protocol.specs.declared.refusal.Refusal.the-variants.{BadBatch}
-use Rattle.clients.specs.Subs.{Sub, sub-of}
-use Rattle.clients.specs.declared.subscriber.Subscriber.{Subscriber}
-use Rattle.outbox.specs.declared.message.Content.{Content}
+use Rattle.clients.specs.Subs.{sub-of}
 use Rattle.outbox.specs.declared.message.Message.{Message}
 use Rattle.outbox.specs.declared.payload.Payload.{Payload}
 use Rattle.outbox.specs.Answers.{first, first-len, rest, laid, said, said-len, take-answer, take-len, take-buffer, Gives}
@@ -26,20 +24,31 @@ use Rattle.outbox.specs.Payloads.{bytes-of}
 pub bytes-short : (p : Payload) → length (bytes-of p) ≤ 256
 bytes-short p = omega (arith, p .short, length-take-le (p .len) (p .bytes) (omega (arith, p .place, p .short)))
 
+-- a payload copied to a buffer with room for any is copied whole
+module _ (bytes before after : List ℕ) (n : ℕ) (short : length bytes ≤ 256) (room : 256 ≤ length before) where
+  whole : take (length before) bytes ≡ bytes
+  whole = take-all (length before) bytes (omega arith)
+
+  pub whole-len : n ≡ length (take (length before) bytes) → n ≡ length bytes
+  whole-len e = e ∙ ap length whole
+
+  pub whole-buffer : after ≡ take (length before) bytes ++ drop (length bytes) before → after ≡ bytes ++ drop (length bytes) before
+  whole-buffer e = e ∙ ap (λ t. t ++ drop (length bytes) before) whole
+
 module _ {C : Type 0} (id : C → List ℕ) where
-  -- a payload copied to a buffer with room for any gives the note
-  pub gives-copied : (s : Subscriber C) (c : Content) (bytes before after : List ℕ) (n : ℕ)
-      → length bytes ≤ 256 → 256 ≤ length before → n ≡ length (take (length before) bytes)
-      → after ≡ take (length before) bytes ++ drop (length bytes) before
-      → Gives id (record { to = sub-of id s; content = c; payload = bytes }) (record { subscriber = s; content = c; len = n }) before after
-  gives-copied s c bytes before after n short room e b =
-      let whole : take (length before) bytes ≡ bytes = take-all (length before) bytes (omega arith) in
-      let len : n ≡ length bytes = e ∙ ap length whole in
-      let buf : after ≡ bytes ++ drop (length bytes) before = b ∙ ap (λ t. t ++ drop (length bytes) before) whole in
+  -- a message and a buffer give the note of the same subscriber and content whose payload stands in front
+  pub gives : (n : Note) (m : Message C) (before after : List ℕ)
+      → sub-of id (m .subscriber) ≡ n .to → m .content ≡ n .content → m .len ≡ length (n .payload)
+      → after ≡ n .payload ++ drop (length (n .payload)) before → Gives id n m before after
+  gives n m before after to content len buffer =
+      let bytes = n .payload in
+      let payload : take (m .len) after ≡ bytes = ap (λ k. take k after) len ∙ ap (take (length bytes)) buffer ∙ take-at bytes (drop (length bytes) before) (length bytes) refl in
       record {
-        note = ap (λ t. Ok (Some (record { to = sub-of id s; content = c; payload = t }))) (ap (λ k. take k after) len ∙ ap (take (length bytes)) buf ∙ take-at bytes (drop (length bytes) before) (length bytes) refl);
+        note = ap (λ t. Ok (Some (record { to = t; content = m .content; payload = take (m .len) after }))) to
+            ∙ ap (λ c. Ok (Some (record { to = n .to; content = c; payload = take (m .len) after }))) content
+            ∙ ap (λ p. Ok (Some (record { to = n .to; content = n .content; payload = p }))) payload;
         len = len;
-        buffer = buf;
+        buffer = buffer;
       }
 
   module _ (n : Note) (ns : List Note) (m : Message C) (before after : List ℕ) (room : 256 ≤ length before) (g : Gives id n m before after) where

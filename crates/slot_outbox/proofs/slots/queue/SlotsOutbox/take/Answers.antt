@@ -4,7 +4,7 @@ use native.Mathlib.Omega.{arith}
 use Prim.Native.Nat.{_-_, _<_, _≤_}
 use lib.ListN.{length}
 use Rattle.std.proofs.shelf.Tests.{true≢false}
-use Rattle.outbox.proofs.Rings.{map-ring-first}
+use Rattle.outbox.proofs.Rings.{ring-out}
 use Rattle.outbox.proofs.Takes.{gives-answer, gives-buffer, gives-len}
 use Rattle.outbox.specs.Answers.{rest, take-answer, take-buffer, take-len}
 use Rattle.outbox.specs.Rings.{ring}
@@ -19,7 +19,7 @@ returns g c =
     let got = c .read-message .ensures in
     let some : 0 < q .len = omega (arith, c .if-self-eq0 .left) in
     let next = ring (c .place-of-self .result) (q .len - 1) (q .row .slots .now) in
-    let first = map-ring-first (note-in id) (q .start) (q .len) (c .place-of-self .result) (q .row .slots .now) (got .0) (q .begins) some (q .within) (c .place-of-self .ensures) (got .1) in
+    let first = ap (map (note-in id)) (ring-out (q .start) (q .len) (c .place-of-self .result) (q .row .slots .now) (got .0) (q .begins) some (q .within) (c .place-of-self .ensures) (got .1)) in
     let n = note-in id (got .0) in
     let ns = map (note-in id) next in
     let m = c .read-message .result in
