@@ -7,6 +7,8 @@ ghost use lib.ListN.{length};
 ghost use Rattle.std.specs.Results.{isOk};
 ghost use Rattle.outbox.specs.Notes.{Note, Sound, proper-batch, notes-of};
 ghost use Rattle.outbox.specs.Answers.{post-answer, take-answer, take-len, take-buffer, rest, said, said-len, taken};
+use crate::limits::MAX_PAYLOAD;
+use crate::limits::MAX_SUBSCRIBERS;
 use crate::message::Content;
 use crate::message::Message;
 use clients::Client;
@@ -17,7 +19,7 @@ use protocol::Refusal;
 pub fn is_proper(count: usize, len: usize) -> bool
     ensures { λ r. ⌜ r ≡ proper-batch count len ⌝ }
 {
-    1 <= count && count <= 100 && len <= 256
+    1 <= count && count <= MAX_SUBSCRIBERS && len <= MAX_PAYLOAD
 }
 
 pub trait Outbox<C: Client> {

@@ -4,6 +4,7 @@ ghost use mathlib.Core.Path.{_≡_};
 ghost use lib.ListN.{length, take, drop};
 ghost use Rattle.outbox.specs.Payloads.{bytes-of};
 use super::Payload;
+use crate::limits::MAX_PAYLOAD;
 
 impl Payload {
     // A payload of no bytes.
@@ -11,7 +12,7 @@ impl Payload {
         ensures { λ r. ⌜ bytes-of r ≡ [] ⌝ }
     {
         Payload {
-            bytes: [0; 256],
+            bytes: [0; MAX_PAYLOAD],
             len: 0,
         }
     }
@@ -20,7 +21,7 @@ impl Payload {
     pub fn set(&mut self, bytes: &[u8])
         ensures { λ _. ⌜ bytes-of (now (self .exit)) ≡ take 256 (now (bytes .entry)) ⌝ }
     {
-        let n = bytes.len().min(256);
+        let n = bytes.len().min(MAX_PAYLOAD);
         self.bytes[0..n].copy_from_slice(&bytes[0..n]);
         self.len = n;
     }

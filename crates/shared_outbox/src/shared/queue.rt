@@ -24,6 +24,8 @@ use crate::row::Row;
 use clients::Client;
 use clients::Subscriber;
 use outbox::Content;
+use outbox::MAX_PAYLOAD;
+use outbox::MAX_SUBSCRIBERS;
 use outbox::Message;
 use outbox::Outbox;
 use outbox::is_proper;
@@ -40,7 +42,7 @@ impl<'a, C: Client> Shared<'a, C> {
         ensures after { λ r. ⌜ Cases r (λ q. waiting-in (C·Client .identity) q ≡ []) (λ e. e ≡ ShortMemory) ⌝ }
         ensures capacity { λ r. ⌜ Cases r (λ q. (capacity-of q ≡ length (now (entries .entry))) × (places-of q ≡ length (now (contents .entry)))) (λ _. Unit {0}) ⌝ }
     {
-        if contents.len() < 1 || entries.len() < 100 {
+        if contents.len() < 1 || entries.len() < MAX_SUBSCRIBERS {
             return Err(Refusal::ShortMemory);
         }
         free_all(contents);
@@ -123,7 +125,7 @@ pub impl<'a, C: Client> Outbox<C> for Shared<'a, C> as SharedOutbox {
         ensures same { λ r. ⌜ (taken r ≡ false → (n l : ℕ) → room-in (now (self .exit)) n l ≡ room-in (now (self .entry)) n l) ⌝ }
         ensures capacity { λ _. ⌜ (capacity-of (now (self .exit)) ≡ capacity-of (now (self .entry))) × (places-of (now (self .exit)) ≡ places-of (now (self .entry))) ⌝ }
     {
-        if out.len() < 256 {
+        if out.len() < MAX_PAYLOAD {
             return Err(Refusal::BadBatch);
         }
         if self.len == 0 {

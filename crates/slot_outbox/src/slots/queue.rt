@@ -17,6 +17,8 @@ use crate::slot::Slot;
 use clients::Client;
 use clients::Subscriber;
 use outbox::Content;
+use outbox::MAX_PAYLOAD;
+use outbox::MAX_SUBSCRIBERS;
 use outbox::Message;
 use outbox::Outbox;
 use outbox::is_proper;
@@ -30,7 +32,7 @@ impl<'a, C: Client> Slots<'a, C> {
         ensures after { λ r. ⌜ Cases r (λ q. waiting-in (C·Client .identity) q ≡ []) (λ e. e ≡ ShortMemory) ⌝ }
         ensures capacity { λ r. ⌜ Cases r (λ q. capacity-of q ≡ length (now (slots .entry))) (λ _. Unit {0}) ⌝ }
     {
-        if slots.len() < 100 {
+        if slots.len() < MAX_SUBSCRIBERS {
             return Err(Refusal::ShortMemory);
         }
         Ok(Slots {
@@ -94,7 +96,7 @@ pub impl<'a, C: Client> Outbox<C> for Slots<'a, C> as SlotsOutbox {
         ensures same { λ r. ⌜ (taken r ≡ false → (n l : ℕ) → room-in (now (self .exit)) n l ≡ room-in (now (self .entry)) n l) ⌝ }
         ensures capacity { λ _. ⌜ capacity-of (now (self .exit)) ≡ capacity-of (now (self .entry)) ⌝ }
     {
-        if out.len() < 256 {
+        if out.len() < MAX_PAYLOAD {
             return Err(Refusal::BadBatch);
         }
         if self.len == 0 {
