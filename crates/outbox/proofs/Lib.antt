@@ -1,0 +1,4 @@
+pub mod Payloads
+pub mod Posts
+pub mod Rings
+pub mod Takes

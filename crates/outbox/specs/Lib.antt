@@ -1,0 +1,4 @@
+pub mod Answers
+pub mod Notes
+pub mod Payloads
+pub mod Rings

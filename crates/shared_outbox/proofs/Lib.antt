@@ -1,0 +1,4 @@
+pub mod Contents
+pub mod Counts
+pub mod Firsts
+pub mod Rooms
