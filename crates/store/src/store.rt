@@ -11,6 +11,9 @@ use crate::key::Key;
 use protocol::Handle;
 use protocol::Refusal;
 
+// The largest value that a store keeps, in bytes; a get buffer has at least as many.
+pub const VALUE_LIMIT: usize = 576;
+
 pub trait Store {
     // the map, as entries in rising order of their keys
     ghost held: { Self → List Entry };
