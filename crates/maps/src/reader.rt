@@ -84,8 +84,8 @@ impl<'a> Reader<'a> {
         ensures answer { λ r. ⌜ outcome itself r (left (now (self .exit))) ≡ head-of (left (now (self .entry))) ⌝ }
         ensures same { λ r. ⌜ Cases r (λ _. Unit {0}) (λ _. now (self .exit) ≡ now (self .entry)) ⌝ }
     {
-        let (head, rest) = head_of(self.rest)?;
-        self.rest = rest;
+        let (head, behind) = head_of(self.rest)?;
+        self.rest = behind;
         Ok(head)
     }
 

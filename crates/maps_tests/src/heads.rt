@@ -1,5 +1,4 @@
 // Heads of every major type and width, and what a reader takes and leaves.
-use maps::Head;
 use maps::Reader;
 use protocol::Fault;
 use protocol::FaultDebug;
@@ -91,19 +90,12 @@ const FAULTY: [Faulty; 18] = [
 fn faulty_heads() -> Result<(), Fail> {
     for (i, row) in FAULTY.iter().enumerate() {
         let mut reader = Reader::new(row.0);
-        check_eq(fault_of(reader.head()), Some(row.1)).note(i)?;
-        check_eq(fault_of(reader.head()), Some(row.1)).note(i)?;
+        check_eq(reader.head().err(), Some(row.1)).note(i)?;
+        check_eq(reader.head().err(), Some(row.1)).note(i)?;
         check_eq(reader.text(row.0.len() as u64)?, row.0).note(i)?;
         check(reader.is_done()).note(i)?;
     }
     Ok(())
-}
-
-fn fault_of(read: Result<Head, Fault>) -> Option<Fault> {
-    match read {
-        Ok(_) => None,
-        Err(fault) => Some(fault),
-    }
 }
 
 // Heads and texts in turn; a text that is too long is not taken.
@@ -113,20 +105,10 @@ fn in_turn() -> Result<(), Fail> {
     check_eq(reader.head()?.argument, 2)?;
     check_eq(reader.text(2)?, b"ab")?;
     check_eq(reader.head()?.argument, 5)?;
-    check_eq(text_fault(reader.text(2)), Some(Fault::Ends))?;
-    check_eq(
-        text_fault(reader.text(18446744073709551615)),
-        Some(Fault::Ends),
-    )?;
+    check_eq(reader.text(2).err(), Some(Fault::Ends))?;
+    check_eq(reader.text(18446744073709551615).err(), Some(Fault::Ends))?;
     check(!reader.is_done())?;
     check_eq(reader.text(0)?, b"")?;
     check_eq(reader.text(1)?, b"c")?;
     check(reader.is_done())
-}
-
-fn text_fault(read: Result<&[u8], Fault>) -> Option<Fault> {
-    match read {
-        Ok(_) => None,
-        Err(fault) => Some(fault),
-    }
 }

@@ -3,3 +3,7 @@
 mod faults;
 #[cfg(test)]
 mod heads;
+#[cfg(test)]
+mod ranges;
+#[cfg(test)]
+mod values;
