@@ -8,7 +8,6 @@ use lib.Dec.{ltb}
 use lib.ListN.{length, length-append}
 use Rattle.std.proofs.shelf.Tests.{cond-true, cond-both, lt-ltb}
 use Rattle.std.proofs.shelf.Ways.{tells}
-use Rattle.std.specs.Options.{isSome, mapped}
 use Rattle.std.specs.declared.option.Option.{Option}
 use Rattle.std.specs.declared.option.Option.the-variants.{Some, None}
 use Rattle.protocol.specs.Bytes.{be-bytes}
@@ -74,11 +73,6 @@ pub length-from : (p : Props) (a b c d e f g h : ℕ)
     → h ≡ length (date-entry Expiration (p .expiration)) → 1 + (a + b + c + d) + (e + f + g) + h ≡ length (written p)
 length-from p a b c d e f g h ha hb hc hd he hf hg hh =
     omega (arith, length-written p, length-text DataAddress (p .data-address), length-text ResourceType (p .resource-type), length-text TopicType (p .topic-type), length-number MaxSubscribers (p .max-subscribers), length-number ObserverCheck (p .observer-check))
-
--- whether a value is given does not depend on what is made of it
-pub some-mapped : {X Y : Type 0} (f : X → Y) (o : Option X) → isSome o ≡ isSome (mapped f o)
-some-mapped f None = refl
-some-mapped f (Some x) = refl
 
 -- what a length tells that is given only where it fits 64 bits
 pub none-from-fits : (n : ℕ) → None ≡ cond (ltb n (2 ^ 64)) (Some n) None → 2 ^ 64 ≤ n

@@ -170,3 +170,11 @@ same-from-ok p q e = cc
 
 pub one-form : One-form
 one-form p q w e = ap written (same-from-ok q p (sym e ∙ reads-back p w))
+
+-- so does the front of a buffer that it was written to
+pub front-reads : (p : Props) (out next : List ℕ) (n : ℕ) → Carried p → n ≡ length (written p) → next ≡ written p ++ drop (length (written p)) out → read-map (take n next) ≡ Ok p
+front-reads p out next n w len is =
+    ap (λ k. read-map (take k next)) len
+    ∙ ap (λ l. read-map (take (length (written p)) l)) is
+    ∙ ap read-map (take-at (written p) (drop (length (written p)) out) (length (written p)) refl)
+    ∙ reads-back p w

@@ -30,14 +30,14 @@ fn count(p: &Properties<'_>) -> u64
     ensures answer { λ r. ⌜ r ≡ given (meant (now (p .entry))) ⌝ }
     ensures len { λ r. ⌜ r ≤ 8 ⌝ }
 {
-    one_if(p.name.is_some())
-        + one_if(p.data_address.is_some())
-        + one_if(p.resource_type.is_some())
-        + one_if(p.content_format.is_some())
-        + one_if(p.topic_type.is_some())
-        + one_if(p.expiration.is_some())
-        + one_if(p.max_subscribers.is_some())
-        + one_if(p.observer_check.is_some())
+    one_if(p.has(Key::Name))
+        + one_if(p.has(Key::DataAddress))
+        + one_if(p.has(Key::ResourceType))
+        + one_if(p.has(Key::ContentFormat))
+        + one_if(p.has(Key::TopicType))
+        + one_if(p.has(Key::Expiration))
+        + one_if(p.has(Key::MaxSubscribers))
+        + one_if(p.has(Key::ObserverCheck))
 }
 
 // The whole map at the front of a buffer with room for it; where it ends.

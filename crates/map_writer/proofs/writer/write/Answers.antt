@@ -1,4 +1,4 @@
-use mathlib.Core.Path.{_≡_, refl, sym, ap, subst, _∙_}
+use mathlib.Core.Path.{_≡_, sym, ap, subst, _∙_}
 use mathlib.Core.Bool.{false, true}
 use mathlib.Core.List.{_++_}
 use native.Mathlib.Omega.{arith}
@@ -8,13 +8,12 @@ use lib.ListN.{length, take, drop}
 use Rattle.std.specs.declared.option.Option.the-variants.{Some, None}
 use Rattle.std.specs.declared.result.Result.the-variants.{Ok}
 use Rattle.std.proofs.shelf.Tests.{cond-true, cond-false, le-leb, lt-leb}
-use Rattle.std.proofs.shelf.Lists.{take-at}
 use Rattle.std.specs.Options.{Cases}
 use Rattle.maps.specs.Maps.{meant, written, read-map}
 use Rattle.map_writer.specs.Laws.{Laws}
 use Rattle.map_writer.proofs.Lengths.{none-from-fits, some-from-fits}
 use Rattle.map_writer.proofs.Largest.{largest}
-use Rattle.map_writer.proofs.Reading.{reads-back, one-form}
+use Rattle.map_writer.proofs.Reading.{reads-back, one-form, front-reads}
 use Rattle.map_writer.proofs.writer.write.Needs as need
 
 laws : Laws
@@ -42,11 +41,7 @@ returns-then-len-out c =
     record {
       answer = ap Some (c .put-map .ensures .answer) ∙ sym (cond-true (leb (length bytes) (length out)) (Some (length bytes)) None fits);
       buffer = c .put-map .ensures .buffer ∙ sym (cond-true (leb (length bytes) (length out)) (bytes ++ drop (length bytes) out) out fits);
-      reads-back =
-          ap (λ n. read-map (take n (c .put-map .last .out))) (c .put-map .ensures .answer)
-          ∙ ap (λ l. read-map (take (length bytes) l)) (c .put-map .ensures .buffer)
-          ∙ ap read-map (take-at bytes (drop (length bytes) out) (length bytes) refl)
-          ∙ reads-back (meant (c .args .p .now)) (c .put-map .ensures .value);
+      reads-back = front-reads (meant (c .args .p .now)) out (c .put-map .last .out) (c .put-map .result) (c .put-map .ensures .value) (c .put-map .ensures .answer) (c .put-map .ensures .buffer);
       laws = laws;
     }
 
