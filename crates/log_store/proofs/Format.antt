@@ -59,11 +59,11 @@ module _ (bs p : List ℕ) (k : Key) (n end : ℕ) (lies : take end bs ≡ p ++ 
       let d = byte 3 (omega arith) in
       let g = byte 4 (omega arith) in
       let handles : be-number (getD bs (end - 7) 0 ∷ getD bs (end - 6) 0 ∷ getD bs (end - 5) 0 ∷ getD bs (end - 4) 0 ∷ []) ≡ k .handle .0
-          = ap (λ x. be-number (x ∷ getD bs (end - 6) 0 ∷ getD bs (end - 5) 0 ∷ getD bs (end - 4) 0 ∷ [])) a
-          ∙ ap (λ x. be-number (getD (be-bytes 4 (k .handle .0)) 0 0 ∷ x ∷ getD bs (end - 5) 0 ∷ getD bs (end - 4) 0 ∷ [])) b
-          ∙ ap (λ x. be-number (getD (be-bytes 4 (k .handle .0)) 0 0 ∷ getD (be-bytes 4 (k .handle .0)) 1 0 ∷ x ∷ getD bs (end - 4) 0 ∷ [])) c
-          ∙ ap (λ x. be-number (getD (be-bytes 4 (k .handle .0)) 0 0 ∷ getD (be-bytes 4 (k .handle .0)) 1 0 ∷ getD (be-bytes 4 (k .handle .0)) 2 0 ∷ x ∷ [])) d
-          ∙ number-be 4 (k .handle .0) h in
+      = ap (λ x. be-number (x ∷ getD bs (end - 6) 0 ∷ getD bs (end - 5) 0 ∷ getD bs (end - 4) 0 ∷ [])) a
+      ∙ ap (λ x. be-number (getD (be-bytes 4 (k .handle .0)) 0 0 ∷ x ∷ getD bs (end - 5) 0 ∷ getD bs (end - 4) 0 ∷ [])) b
+      ∙ ap (λ x. be-number (getD (be-bytes 4 (k .handle .0)) 0 0 ∷ getD (be-bytes 4 (k .handle .0)) 1 0 ∷ x ∷ getD bs (end - 4) 0 ∷ [])) c
+      ∙ ap (λ x. be-number (getD (be-bytes 4 (k .handle .0)) 0 0 ∷ getD (be-bytes 4 (k .handle .0)) 1 0 ∷ getD (be-bytes 4 (k .handle .0)) 2 0 ∷ x ∷ [])) d
+      ∙ number-be 4 (k .handle .0) h in
       ap (λ x. record { handle = record { 0 = x }; part = getD bs (end - 3) 0 }) handles
       ∙ ap (λ x. record { handle = k .handle; part = x }) g
 
@@ -101,7 +101,7 @@ top-of bs end e es l h f =
       room = omega arith;
       before = ap (λ k. take k bs) m ∙ ap (take (length (encoded es))) split ∙ take-at (encoded es) (entry-bytes e ++ drop end bs) (length (encoded es)) refl;
       value = ap (take (length (e .value))) (rest ∙ append-assoc (e .value) t (drop end bs)) ∙ take-at (e .value) (t ++ drop end bs) (length (e .value)) refl;
-      whole = ap (take (length (e .value) + 7)) rest ∙ take-at (entry-bytes e) (drop end bs) (length (e .value) + 7) (length-entry e)
+      whole = ap (take (length (e .value) + 7)) rest ∙ take-at (entry-bytes e) (drop end bs) (length (e .value) + 7) (length-entry e);
     }
 
 -- as many entries as are asked for are read back

@@ -29,8 +29,12 @@ newest-in bs end (e ∷ es) l p i h =
     let f = fit-first e es (h .fits) in
     let t = top-of bs end e es l (sym (h .bytes)) f in
     record {
-      entry = e; older = es; is = i; fits = f; top = t;
-      rest = record { bytes = sym (ap (λ k. take (end - 7 - k) bs) (t .len) ∙ t .before); fits = fit-rest e es (h .fits) }
+      entry = e;
+      older = es;
+      is = i;
+      fits = f;
+      top = t;
+      rest = record { bytes = sym (ap (λ k. take (end - 7 - k) bs) (t .len) ∙ t .before); fits = fit-rest e es (h .fits) };
     }
 
 pub newest : (bs : List ℕ) (end : ℕ) → end ≤ length bs → 0 < end → Log (take end bs) → Newest bs end

@@ -26,7 +26,8 @@ encoded (e ∷ es) = encoded es ++ entry-bytes e
 unfoldable pub key-at : List ℕ → ℕ → Key
 key-at bs end = record {
   handle = record { 0 = be-number (getD bs (end - 7) 0 ∷ getD bs (end - 6) 0 ∷ getD bs (end - 5) 0 ∷ getD bs (end - 4) 0 ∷ []) };
-  part = getD bs (end - 3) 0 }
+  part = getD bs (end - 3) 0;
+}
 
 -- the value's length in the trailer that ends at a place
 unfoldable pub len-at : List ℕ → ℕ → ℕ

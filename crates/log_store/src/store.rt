@@ -53,7 +53,10 @@ impl<'a> LogStore<'a> {
         ensures after { λ r. ⌜ contents (r .memory) ≡ [] ⌝ ∗ ⌜ meaning (entries (contents (r .memory))) ≡ [] ⌝ }
         ensures capacity { λ r. ⌜ size (r .memory) ≡ length (now (bytes .entry)) ⌝ }
     {
-        LogStore { memory: Memory { bytes, used: 0 }, count: 0 }
+        LogStore {
+            memory: Memory { bytes, used: 0 },
+            count: 0,
+        }
     }
 }
 

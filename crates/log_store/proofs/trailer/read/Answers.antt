@@ -13,5 +13,5 @@ returns c =
     let at : ℕ → ℕ = λ k. getD (c .args .bytes .now) (c .args .end - k) 0 in
     record {
       key = ap (λ h. record { handle = record { 0 = h }; part = at 3 }) (c .from-be-bytes-handle .ensures ∙ number4 (at 7 ∷ at 6 ∷ at 5 ∷ at 4 ∷ []) refl);
-      len = c .from-be-bytes-len .ensures ∙ number2 (at 2 ∷ at 1 ∷ []) refl
+      len = c .from-be-bytes-len .ensures ∙ number2 (at 2 ∷ at 1 ∷ []) refl;
     }
