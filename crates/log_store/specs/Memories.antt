@@ -5,10 +5,6 @@ use Prim.Native.Nat.{ℕ, _+_, _≤_}
 use denote.Ref.{now}
 use lib.Dec.{leb}
 use lib.ListN.{length, take}
-use Rattle.std.specs.declared.result.Result.{Result}
-use Rattle.std.specs.declared.result.Result.the-variants.{Ok, Err}
-use Rattle.protocol.specs.declared.refusal.Refusal.{Refusal}
-use Rattle.protocol.specs.declared.refusal.Refusal.the-variants.{ShortMemory}
 use Rattle.store.specs.Held.{Entry}
 use Rattle.log_store.specs.declared.memory.Memory.{Memory}
 use Rattle.log_store.specs.Format.{Log, encoded, entries, entry-bytes}
@@ -21,10 +17,6 @@ contents m = take (m .used) (now (m .bytes))
 -- how many bytes the memory has
 abbrev pub size : Memory → ℕ
 size m = length (now (m .bytes))
-
--- whether so many bytes are enough: room for two of the longest entries, of 583 bytes each
-abbrev pub memory-answer : ℕ → Result (Unit {0}) Refusal
-memory-answer n = cond (leb 1166 n) (Ok tt) (Err ShortMemory)
 
 -- the log lies within the memory
 abbrev pub Whole : Memory → Type 0

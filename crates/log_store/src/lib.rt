@@ -1,5 +1,6 @@
 // A store that is a log in the caller's bytes.
 mod held;
+mod lend;
 mod memory;
 mod moves;
 mod sift;
@@ -7,5 +8,4 @@ mod store;
 mod trailer;
 mod walk;
 
-pub use held::LogStore;
-pub use store::LogStoreStore;
+pub use lend::with_log;

@@ -7,9 +7,8 @@ ghost use lib.Dec.{leb};
 ghost use lib.ListN.{length};
 ghost use Rattle.log_store.specs.Format.{entries};
 ghost use Rattle.log_store.specs.Logs.{meaning};
-ghost use Rattle.log_store.specs.Memories.{contents, memory-answer, size};
+ghost use Rattle.log_store.specs.Memories.{contents, size};
 use crate::held::LogStore;
-use crate::memory::ENTRY_LIMIT;
 use crate::memory::Memory;
 use protocol::Handle;
 use protocol::Refusal;
@@ -33,24 +32,10 @@ fn count_with(held: bool, count: usize) -> usize
 }
 
 impl<'a> LogStore<'a> {
-    // The least memory: room for two entries.
-    pub const MEMORY_LIMIT: usize = 2 * ENTRY_LIMIT;
-
-    // Whether so many bytes of memory are enough.
-    pub fn check_memory(len: usize) -> Result<(), Refusal>
-        ensures { λ r. ⌜ r ≡ memory-answer len ⌝ }
-    {
-        if len < Self::MEMORY_LIMIT {
-            return Err(Refusal::ShortMemory);
-        }
-        Ok(())
-    }
-
-    // A store in the caller's bytes, empty whatever they hold. Who has asked `check_memory` may call it: a `Result` cannot
-    // hold a store, since the store holds a reference and an invariant.
-    pub fn new(bytes: &'a mut [u8]) -> LogStore<'a>
+    // A store in the caller's bytes, empty whatever they hold.
+    pub(crate) fn new(bytes: &'a mut [u8]) -> LogStore<'a>
         requires { ⌜ 1166 ≤ length (now bytes) ⌝ }
-        ensures after { λ r. ⌜ contents (r .memory) ≡ [] ⌝ ∗ ⌜ meaning (entries (contents (r .memory))) ≡ [] ⌝ }
+        ensures after { λ r. ⌜ meaning (entries (contents (r .memory))) ≡ [] ⌝ }
         ensures capacity { λ r. ⌜ size (r .memory) ≡ length (now (bytes .entry)) ⌝ }
     {
         LogStore {

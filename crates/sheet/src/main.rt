@@ -5,14 +5,15 @@ mod options;
 mod text;
 
 use lines::run;
-use log_store::LogStore;
-use log_store::LogStoreStore;
+use log_store::with_log;
 use options::Kind;
 use options::parse;
 use std::env;
 use std::error::AnyError;
 use std::fs;
 use std::io;
+use store::Store;
+use store::Work;
 use table_store::TableStore;
 use table_store::TableStoreStore;
 use text::refusal_text;
@@ -30,21 +31,36 @@ end come the topics that the store holds, and a summary.
   FILE               the sheet; without it, standard input";
 
 // The whole sheet, from the file or from standard input.
-fn sheet(rt: &LibcRuntime, path: &Option<String>) -> Result<String, AnyError> {
+fn whole_text(rt: &LibcRuntime, path: &Option<String>) -> Result<String, AnyError> {
     match path {
         Some(path) => Ok(fs::read_to_string(rt, path.as_str())?),
         None => Ok(io::read_to_string(rt.alloc(), rt.stdin())?),
     }
 }
 
-// The sheet with a log store in these bytes.
-fn in_log(rt: &LibcRuntime, text: &str, bytes: &mut [u8]) -> Result<(), AnyError> {
-    if let Err(refusal) = LogStore::check_memory(bytes.len()) {
-        let words = refusal_text(rt.alloc(), refusal)?;
-        return Err(words.into());
+// A sheet to be read into a store.
+#[derive(Drop)]
+struct Sheet<'a> {
+    rt: &'a LibcRuntime,
+    text: &'a str,
+}
+
+impl Work for Sheet<'_> as SheetWork {
+    type Output = Result<(), AnyError>;
+
+    ghost done = { λ _ _ _ _. Unit {0} };
+
+    fn run<S: Store>(self, store: &mut S) -> Result<(), AnyError> {
+        run(self.rt, self.text, store)
     }
-    let mut store = LogStore::new(bytes);
-    run(rt, text, &mut store)
+}
+
+// The sheet, read into a log store in these bytes.
+fn in_log<'a>(rt: &'a LibcRuntime, text: &'a str, bytes: &mut [u8]) -> Result<(), AnyError> {
+    match with_log(bytes, Sheet { rt, text }) {
+        Ok(outcome) => outcome,
+        Err(refusal) => Err(refusal_text(rt.alloc(), refusal)?.into()),
+    }
 }
 
 fn process(rt: &LibcRuntime) -> Result<(), AnyError> {
@@ -53,7 +69,7 @@ fn process(rt: &LibcRuntime) -> Result<(), AnyError> {
         rt.println(USAGE)?;
         return Ok(());
     }
-    let text = sheet(rt, &options.path)?;
+    let text = whole_text(rt, &options.path)?;
     match options.store {
         Kind::Table => {
             let mut store = TableStore::new();

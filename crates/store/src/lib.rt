@@ -3,9 +3,11 @@ mod key;
 mod laws;
 mod scan;
 mod store;
+mod work;
 
 pub use key::Key;
 pub use laws::laws_stand;
 pub use scan::lower;
 pub use store::Store;
 pub use store::VALUE_LIMIT;
+pub use work::Work;

@@ -11,4 +11,4 @@ pub ghost-result : need.ghost-result
 ghost-result c = (search needs, (ap encoded entries-none, (ap all-fit entries-none, (sym (ap (λ es. length (meaning es)) entries-none), (search needs, (c .pre, tt))))))
 
 pub returns : need.returns
-returns c = record { after = (refl, ap meaning entries-none); capacity = refl }
+returns c = record { after = ap meaning entries-none; capacity = refl }
