@@ -1,13 +1,16 @@
--- Laws of writing into a buffer: nothing, one part behind another, and from its front.
-use Prim.Native.Nat.{ℕ, _+_, _-_, _≤_}
+-- Laws of writing into a buffer: nothing, one part behind another, from its front, and what fits it.
+use Prim.Native.Nat.{ℕ, _+_, _≤_, _<_}
 use borrow.Rule.Slice.PartMut.{putMid}
-use mathlib.Core.Path.{_≡_, refl, sym, ap, _∙_}
-use mathlib.Core.List.{List, [], _∷_, _++_, append-assoc}
+use mathlib.Core.Path.{_≡_, sym, ap, _∙_}
+use mathlib.Core.List.{List, [], _++_, append-assoc}
 use native.Mathlib.Nat.{zero-add, add-assoc}
 use native.Mathlib.Omega.{arith}
+use lib.Dec.{leb}
 use lib.ListN.{length, take, drop, length-append}
-use Rattle.std.proofs.shelf.Lists.{take-append-drop, take-at, drop-at, drop-drop, length-take-le, append-nil}
-use Rattle.map_writer.specs.Buffers.{overlaid}
+use Rattle.std.proofs.shelf.Lists.{take-append-drop, take-at, drop-at, drop-drop, length-take-le}
+use Rattle.std.proofs.shelf.Tests.{cond-true, cond-false, le-leb, lt-leb}
+use Rattle.std.specs.declared.option.Option.the-variants.{Some, None}
+use Rattle.map_writer.specs.Buffers.{overlaid, len-if-fits, placed-if-fits}
 
 -- nothing written, nothing changed
 pub overlaid-nil : (buffer : List ℕ) (at : ℕ) → buffer ≡ overlaid buffer at []
@@ -58,3 +61,18 @@ overlaid-part buffer bytes part at n e l =
     ap (λ p. putMid at n buffer p) e
     ∙ ap (λ t. take at buffer ++ (bytes ++ t)) (drop-drop n at buffer)
     ∙ ap (λ k. take at buffer ++ (bytes ++ drop (at + k) buffer)) l
+
+-- bytes that fit a buffer, and were placed at its front
+module _ (bytes buffer : List ℕ) where
+  pub fits-len : (n : ℕ) → length bytes ≤ length buffer → n ≡ length bytes → Some n ≡ len-if-fits bytes buffer
+  fits-len n fits e = ap Some e ∙ sym (cond-true (leb (length bytes) (length buffer)) (Some (length bytes)) None (le-leb (length bytes) (length buffer) fits))
+
+  pub fits-placed : (next : List ℕ) → length bytes ≤ length buffer → next ≡ bytes ++ drop (length bytes) buffer → next ≡ placed-if-fits bytes buffer
+  fits-placed next fits e = e ∙ sym (cond-true (leb (length bytes) (length buffer)) (bytes ++ drop (length bytes) buffer) buffer (le-leb (length bytes) (length buffer) fits))
+
+  -- bytes that do not fit
+  pub long-len : length buffer < length bytes → None ≡ len-if-fits bytes buffer
+  long-len long = sym (cond-false (leb (length bytes) (length buffer)) (Some (length bytes)) None (lt-leb (length bytes) (length buffer) long))
+
+  pub long-placed : length buffer < length bytes → buffer ≡ placed-if-fits bytes buffer
+  long-placed long = sym (cond-false (leb (length bytes) (length buffer)) (bytes ++ drop (length bytes) buffer) buffer (lt-leb (length bytes) (length buffer) long))

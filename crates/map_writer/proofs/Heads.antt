@@ -1,19 +1,17 @@
--- Laws of heads: a written head is read as itself, and how long it is.
+-- Laws of heads: a written head is read as itself, whatever stands behind it.
 use Prim.Native.Nat.{ℕ, _+_, _-_, _*_, _/_, _%_, _^_, _<_, _≤_}
-use mathlib.Core.Path.{_≡_, refl, sym, ap, _∙_}
-use mathlib.Core.Bool.{true, false, cond}
-use mathlib.Core.List.{List, [], _∷_, _++_}
+use mathlib.Core.Path.{_≡_, ap, _∙_}
+use mathlib.Core.List.{List, _∷_, _++_}
 use native.Mathlib.Omega.{arith}
 use lib.Dec.{leb, ltb}
-use lib.ListN.{length, take, drop, length-append}
+use lib.ListN.{length, drop, length-append}
 use Rattle.std.specs.declared.result.Result.{Result}
-use Rattle.std.specs.declared.result.Result.the-variants.{Ok, Err}
+use Rattle.std.specs.declared.result.Result.the-variants.{Ok}
 use Rattle.std.proofs.shelf.Lists.{take-at, drop-at}
-use Rattle.std.proofs.shelf.Tests.{cond-true, cond-false, cond-both, lt-ltb, le-ltb, le-leb, ltb-true, ltb-false}
+use Rattle.std.proofs.shelf.Tests.{cond-true, cond-false, cond-both, lt-ltb, le-ltb, le-leb, ltb-true}
 use Rattle.protocol.specs.Bytes.{be-bytes, be-number}
 use Rattle.protocol.proofs.Bytes.{length-be, number-be}
 use Rattle.protocol.specs.declared.fault.Fault.{Fault}
-use Rattle.protocol.specs.declared.fault.Fault.the-variants.{Ends, WrongType}
 use Rattle.maps.specs.declared.head.Head.{Head}
 use Rattle.maps.specs.Heads.{Got, long-head, head-of, head-bytes}
 
@@ -50,7 +48,7 @@ argument m w n rest h =
     ∙ ap (λ k. got-head m k (drop w (be-bytes w n ++ rest))) (number-be w n h)
     ∙ ap (λ t. got-head m n t) (drop-at (be-bytes w n) rest w l)
 
--- a written head is read as itself, whatever stands behind it
+-- whatever its major type, for every argument of 64 bits
 pub head-read : (m n : ℕ) (rest : List ℕ) → n < 2 ^ 64 → head-of (head-bytes m n ++ rest) ≡ got-head m n rest
 head-read m n rest h =
     let P : List ℕ → Type 0 = λ bs. head-of (bs ++ rest) ≡ got-head m n rest in

@@ -1,11 +1,11 @@
 -- The largest map that is written for a topic.
-use Prim.Native.Nat.{ℕ, _+_, _^_, _<_, _≤_}
-use mathlib.Core.Path.{_≡_, refl, sym, ap, _∙_}
-use mathlib.Core.Bool.{Bool, true, false, cond, _&&_}
-use mathlib.Core.List.{List, [], _∷_, _++_}
+use Prim.Native.Nat.{ℕ, _+_, _<_, _≤_}
+use mathlib.Core.Path.{_≡_, refl, ap}
+use mathlib.Core.Bool.{true, _&&_}
+use mathlib.Core.List.{List}
 use native.Mathlib.Omega.{arith}
 use lib.Dec.{leb, ltb}
-use lib.ListN.{length, replicate, length-append}
+use lib.ListN.{length, replicate}
 use Rattle.std.specs.Options.{Cases}
 use Rattle.std.specs.declared.option.Option.{Option}
 use Rattle.std.specs.declared.option.Option.the-variants.{Some, None}
@@ -15,9 +15,9 @@ use Rattle.std.proofs.shelf.Ways.{tells}
 use Rattle.maps.specs.Heads.{head-bytes}
 use Rattle.maps.specs.declared.properties.Key.{Key}
 use Rattle.maps.specs.declared.properties.Key.the-variants.{Name, DataAddress, ResourceType, ContentFormat, TopicType, Expiration, MaxSubscribers, ObserverCheck}
-use Rattle.maps.specs.Maps.{Props, key-number, text-entry, number-entry, date-entry, absent-or, in-range, written}
+use Rattle.maps.specs.Maps.{Props, text-entry, number-entry, date-entry, absent-or, written}
 use Rattle.maps.specs.Laws.{Topical, Largest}
-use Rattle.map_writer.proofs.Lengths.{length-key, length-written}
+use Rattle.map_writer.proofs.Lengths.{length-text-of, length-number-of, length-date-of, length-written}
 
 -- how long a head can be under a limit of its argument
 head-le-1 : (m n : ℕ) → n < 24 → length (head-bytes m n) ≤ 1
@@ -31,21 +31,6 @@ head-le-3 m n h = grind (arith, tells)
 
 head-le-5 : (m n : ℕ) → n < 4294967296 → length (head-bytes m n) ≤ 5
 head-le-5 m n h = grind (arith, tells)
-
-length-text-of : (k : Key) (t : List ℕ) → length (text-entry k (Some t)) ≡ 1 + (length (head-bytes 3 (length t)) + length t)
-length-text-of k t =
-    length-append (head-bytes 0 (key-number k)) (head-bytes 3 (length t) ++ t)
-    ∙ ap (λ n. n + length (head-bytes 3 (length t) ++ t)) (length-key k)
-    ∙ ap (λ n. 1 + n) (length-append (head-bytes 3 (length t)) t)
-
-length-number-of : (k : Key) (n : ℕ) → length (number-entry k (Some n)) ≡ 1 + length (head-bytes 0 n)
-length-number-of k n = length-append (head-bytes 0 (key-number k)) (head-bytes 0 n) ∙ ap (λ l. l + length (head-bytes 0 n)) (length-key k)
-
-length-date-of : (k : Key) (n : ℕ) → length (date-entry k (Some n)) ≡ 1 + (1 + length (head-bytes 0 n))
-length-date-of k n =
-    length-append (head-bytes 0 (key-number k)) (head-bytes 6 1 ++ head-bytes 0 n)
-    ∙ ap (λ l. l + length (head-bytes 6 1 ++ head-bytes 0 n)) (length-key k)
-    ∙ ap (λ l. 1 + l) (length-append (head-bytes 6 1) (head-bytes 0 n))
 
 -- how long each entry of a topic can be
 text-le : (k : Key) (o : Option (List ℕ)) → absent-or (λ t. leb (length t) 256) o ≡ true → length (text-entry k o) ≤ 260

@@ -1,24 +1,19 @@
 -- How long heads, entries and whole maps are in their written form.
-use Prim.Native.Nat.{ℕ, _+_, _^_, _<_, _≤_}
+use Prim.Native.Nat.{ℕ, _+_, _^_, _≤_}
 use mathlib.Core.Path.{_≡_, refl, sym, ap, _∙_}
 use mathlib.Core.Bool.{Bool, true, false, cond}
-use mathlib.Core.List.{List, [], _∷_, _++_}
+use mathlib.Core.List.{List, _++_}
 use native.Mathlib.Omega.{arith}
 use lib.Dec.{ltb}
 use lib.ListN.{length, length-append}
-use Rattle.std.proofs.shelf.Tests.{cond-true, cond-both, lt-ltb}
+use Rattle.std.proofs.shelf.Tests.{cond-true, lt-ltb}
 use Rattle.std.proofs.shelf.Ways.{tells}
 use Rattle.std.specs.declared.option.Option.{Option}
 use Rattle.std.specs.declared.option.Option.the-variants.{Some, None}
-use Rattle.protocol.specs.Bytes.{be-bytes}
 use Rattle.maps.specs.Heads.{head-bytes}
 use Rattle.maps.specs.declared.properties.Key.{Key}
 use Rattle.maps.specs.declared.properties.Key.the-variants.{Name, DataAddress, ResourceType, ContentFormat, TopicType, Expiration, MaxSubscribers, ObserverCheck}
 use Rattle.maps.specs.Maps.{Props, key-number, text-entry, number-entry, date-entry, one-if, has, given, written-entries, written}
-
--- the major type does not change a head's length
-pub length-head : (m n : ℕ) → length (head-bytes m n) ≡ length (head-bytes 0 n)
-length-head m n = grind (arith, tells)
 
 -- a key's head has one byte
 pub length-key : (k : Key) → length (head-bytes 0 (key-number k)) ≡ 1
@@ -31,14 +26,30 @@ length-key Expiration = refl
 length-key MaxSubscribers = refl
 length-key ObserverCheck = refl
 
+-- an entry has its key, the head of its value, and a text has its bytes and a date its tag
+pub length-text-of : (k : Key) (t : List ℕ) → length (text-entry k (Some t)) ≡ 1 + (length (head-bytes 3 (length t)) + length t)
+length-text-of k t =
+    length-append (head-bytes 0 (key-number k)) (head-bytes 3 (length t) ++ t)
+    ∙ ap (λ n. n + length (head-bytes 3 (length t) ++ t)) (length-key k)
+    ∙ ap (λ n. 1 + n) (length-append (head-bytes 3 (length t)) t)
+
+pub length-number-of : (k : Key) (n : ℕ) → length (number-entry k (Some n)) ≡ 1 + length (head-bytes 0 n)
+length-number-of k n = length-append (head-bytes 0 (key-number k)) (head-bytes 0 n) ∙ ap (λ l. l + length (head-bytes 0 n)) (length-key k)
+
+pub length-date-of : (k : Key) (n : ℕ) → length (date-entry k (Some n)) ≡ 1 + (1 + length (head-bytes 0 n))
+length-date-of k n =
+    length-append (head-bytes 0 (key-number k)) (head-bytes 6 1 ++ head-bytes 0 n)
+    ∙ ap (λ l. l + length (head-bytes 6 1 ++ head-bytes 0 n)) (length-key k)
+    ∙ ap (λ l. 1 + l) (length-append (head-bytes 6 1) (head-bytes 0 n))
+
 -- the key does not change an entry's length
 pub length-text : (k : Key) (o : Option (List ℕ)) → length (text-entry k o) ≡ length (text-entry Name o)
 length-text k None = refl
-length-text k (Some t) = length-append (head-bytes 0 (key-number k)) (head-bytes 3 (length t) ++ t) ∙ ap (λ l. l + length (head-bytes 3 (length t) ++ t)) (length-key k) ∙ omega arith
+length-text k (Some t) = length-text-of k t ∙ sym (length-text-of Name t)
 
 pub length-number : (k : Key) (o : Option ℕ) → length (number-entry k o) ≡ length (number-entry ContentFormat o)
 length-number k None = refl
-length-number k (Some n) = length-append (head-bytes 0 (key-number k)) (head-bytes 0 n) ∙ ap (λ l. l + length (head-bytes 0 n)) (length-key k) ∙ omega arith
+length-number k (Some n) = length-number-of k n ∙ sym (length-number-of ContentFormat n)
 
 one-if-le : (b : Bool) → one-if b ≤ 1
 one-if-le true = omega arith

@@ -1,9 +1,9 @@
 -- What is read from written items, entries and maps.
-use Prim.Native.Nat.{ℕ, zero, suc, _+_, _^_, _<_, _≤_}
+use Prim.Native.Nat.{ℕ, _+_, _^_, _<_}
 use mathlib.Core.Path.{_≡_, refl, sym, ap, _∙_}
-use mathlib.Core.Bool.{Bool, true, false, cond}
-use mathlib.Core.List.{List, [], _∷_, _++_, append-assoc}
-use native.Mathlib.Nat.{zero-add, add-zero, add-assoc}
+use mathlib.Core.Bool.{false, cond}
+use mathlib.Core.List.{List, [], _++_, append-assoc}
+use native.Mathlib.Nat.{zero-add}
 use native.Mathlib.Numerals.{one-add}
 use native.Mathlib.Omega.{arith}
 use lib.Dec.{eqb, leb}
@@ -19,8 +19,8 @@ use Rattle.protocol.specs.declared.fault.Fault.{Fault}
 use Rattle.protocol.specs.declared.fault.Fault.the-variants.{Ends, WrongType, RepeatedKey}
 use Rattle.maps.specs.declared.properties.Key.{Key}
 use Rattle.maps.specs.declared.properties.Key.the-variants.{Name, DataAddress, ResourceType, ContentFormat, TopicType, Expiration, MaxSubscribers, ObserverCheck}
-use Rattle.maps.specs.Heads.{Got, head-of, head-bytes}
-use Rattle.maps.specs.Maps.{Props, then, item-of, number-of, text-of, date-of, key-number, key-of, has, value-of, keyed, entry-of, entries-of, whole, read-map, nothing, text-entry, number-entry, date-entry, one-if, given, written-entries, written, with-name, with-data-address, with-resource-type, with-content-format, with-topic-type, with-expiration, with-max-subscribers, with-observer-check}
+use Rattle.maps.specs.Heads.{Got, head-bytes}
+use Rattle.maps.specs.Maps.{Props, then, item-of, number-of, text-of, date-of, key-number, key-of, has, value-of, keyed, entry-of, entries-of, whole, read-map, nothing, text-entry, number-entry, date-entry, one-if, given, written-entries, written}
 use Rattle.maps.specs.Laws.{Text, Num, Carried, Reads-back, One-form}
 use Rattle.map_writer.proofs.Heads.{head-read}
 use Rattle.map_writer.proofs.Lengths.{given-le}

@@ -1,4 +1,4 @@
-// Writing a map.
+// The writer of maps: the one form of the properties, at the front of a lent buffer.
 ghost use mathlib.Core.List.{_++_};
 ghost use mathlib.Core.Path.{_≡_};
 ghost use Prim.Native.Nat.{_≤_};

@@ -1,12 +1,12 @@
 use borrow.Author.Needs.{needs}
-use mathlib.Core.Path.{_≡_, refl, sym, ap, subst, _∙_}
-use mathlib.Core.List.{List, _++_}
-use Prim.Native.Nat.{ℕ, _+_}
+use mathlib.Core.Path.{_≡_, sym, ap, subst, _∙_}
+use mathlib.Core.List.{_++_}
+use Prim.Native.Nat.{_+_}
 use native.Mathlib.Omega.{arith}
 use lib.ListN.{length, length-append}
 use Rattle.maps.specs.Heads.{head-bytes}
 use Rattle.maps.specs.Laws.{Num}
-use Rattle.maps.specs.Maps.{key-number, date-entry}
+use Rattle.maps.specs.Maps.{date-entry}
 use Rattle.map_writer.proofs.Buffers.{Put, put-then, put-nothing, put-as}
 use Rattle.map_writer.proofs.entry.put_date.Needs as need
 

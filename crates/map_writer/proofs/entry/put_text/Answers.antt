@@ -1,13 +1,13 @@
-use mathlib.Core.Path.{_≡_, refl, sym, ap, subst, _∙_}
-use mathlib.Core.List.{List, _++_}
-use Prim.Native.Nat.{ℕ, _+_}
+use mathlib.Core.Path.{_≡_, sym, ap, subst, _∙_}
+use mathlib.Core.List.{_++_}
+use Prim.Native.Nat.{_+_}
 use native.Mathlib.Omega.{arith}
 use denote.Ref.{now}
 use lib.ListN.{length, length-append}
 use Rattle.std.specs.Options.{mapped}
 use Rattle.maps.specs.Heads.{head-bytes}
 use Rattle.maps.specs.Laws.{Text}
-use Rattle.maps.specs.Maps.{key-number, text-entry}
+use Rattle.maps.specs.Maps.{text-entry}
 use Rattle.map_writer.proofs.Buffers.{Put, put-then, put-nothing, put-as}
 use Rattle.map_writer.proofs.entry.put_text.Needs as need
 

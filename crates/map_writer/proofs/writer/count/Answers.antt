@@ -1,7 +1,6 @@
-use mathlib.Core.Path.{_≡_, ap, _∙_}
+use mathlib.Core.Path.{ap, _∙_}
 use native.Mathlib.Omega.{arith}
-use Prim.Native.Nat.{ℕ, _+_}
-use Rattle.maps.specs.Maps.{meant, given, one-if}
+use Rattle.maps.specs.Maps.{meant, one-if}
 use Rattle.map_writer.proofs.Lengths.{given-le}
 use Rattle.map_writer.proofs.writer.count.Needs as need
 

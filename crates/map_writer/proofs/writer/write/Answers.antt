@@ -1,18 +1,14 @@
-use mathlib.Core.Path.{_≡_, sym, ap, subst, _∙_}
-use mathlib.Core.Bool.{false, true}
-use mathlib.Core.List.{_++_}
+use mathlib.Core.Path.{_≡_, sym, subst, _∙_}
 use native.Mathlib.Omega.{arith}
-use Prim.Native.Nat.{_^_, _≤_, _<_}
-use lib.Dec.{leb}
-use lib.ListN.{length, take, drop}
-use Rattle.std.specs.declared.option.Option.the-variants.{Some, None}
-use Rattle.std.specs.declared.result.Result.the-variants.{Ok}
-use Rattle.std.proofs.shelf.Tests.{cond-true, cond-false, le-leb, lt-leb}
+use Prim.Native.Nat.{_≤_, _<_}
+use lib.ListN.{length, take}
 use Rattle.std.specs.Options.{Cases}
+use Rattle.std.specs.declared.result.Result.the-variants.{Ok}
 use Rattle.maps.specs.Maps.{meant, written, read-map}
 use Rattle.map_writer.specs.Laws.{Laws}
-use Rattle.map_writer.proofs.Lengths.{none-from-fits, some-from-fits}
+use Rattle.map_writer.proofs.Buffers.{fits-len, fits-placed, long-len, long-placed}
 use Rattle.map_writer.proofs.Largest.{largest}
+use Rattle.map_writer.proofs.Lengths.{none-from-fits, some-from-fits}
 use Rattle.map_writer.proofs.Reading.{reads-back, one-form, front-reads}
 use Rattle.map_writer.proofs.writer.write.Needs as need
 
@@ -24,10 +20,10 @@ returns-in-Break-len c =
     let bytes = written (meant (c .args .p .now)) in
     let out = c .args .out .now in
     let huge = none-from-fits (length bytes) (c .in-Break-len .ensures tt .answer) in
-    let long : leb (length bytes) (length out) ≡ false = lt-leb (length bytes) (length out) (omega arith) in
+    let long : length out < length bytes = omega arith in
     record {
-      answer = c .from-residual .ensures ∙ sym (cond-false (leb (length bytes) (length out)) (Some (length bytes)) None long);
-      buffer = sym (cond-false (leb (length bytes) (length out)) (bytes ++ drop (length bytes) out) out long);
+      answer = c .from-residual .ensures ∙ long-len bytes out long;
+      buffer = long-placed bytes out long;
       reads-back = subst (λ r. Cases r (Unit {0}) (λ n. read-map (take n out) ≡ Ok (meant (c .args .p .now)))) (sym (c .from-residual .ensures)) tt;
       laws = laws;
     }
@@ -37,10 +33,10 @@ returns-then-len-out c =
     let bytes = written (meant (c .args .p .now)) in
     let out = c .args .out .now in
     let len = some-from-fits (length bytes) (c .in-Continue-len .len) (c .in-Continue-len .ensures tt .answer) in
-    let fits : leb (length bytes) (length out) ≡ true = le-leb (length bytes) (length out) (omega arith) in
+    let fits : length bytes ≤ length out = omega arith in
     record {
-      answer = ap Some (c .put-map .ensures .answer) ∙ sym (cond-true (leb (length bytes) (length out)) (Some (length bytes)) None fits);
-      buffer = c .put-map .ensures .buffer ∙ sym (cond-true (leb (length bytes) (length out)) (bytes ++ drop (length bytes) out) out fits);
+      answer = fits-len bytes out (c .put-map .result) fits (c .put-map .ensures .answer);
+      buffer = fits-placed bytes out (c .put-map .last .out) fits (c .put-map .ensures .buffer);
       reads-back = front-reads (meant (c .args .p .now)) out (c .put-map .last .out) (c .put-map .result) (c .put-map .ensures .value) (c .put-map .ensures .answer) (c .put-map .ensures .buffer);
       laws = laws;
     }
@@ -50,10 +46,10 @@ returns-else-len-out c =
     let bytes = written (meant (c .args .p .now)) in
     let out = c .args .out .now in
     let len = some-from-fits (length bytes) (c .in-Continue-len .len) (c .in-Continue-len .ensures tt .answer) in
-    let long : leb (length bytes) (length out) ≡ false = lt-leb (length bytes) (length out) (omega arith) in
+    let long : length out < length bytes = omega arith in
     record {
-      answer = sym (cond-false (leb (length bytes) (length out)) (Some (length bytes)) None long);
-      buffer = sym (cond-false (leb (length bytes) (length out)) (bytes ++ drop (length bytes) out) out long);
+      answer = long-len bytes out long;
+      buffer = long-placed bytes out long;
       reads-back = tt;
       laws = laws;
     }
