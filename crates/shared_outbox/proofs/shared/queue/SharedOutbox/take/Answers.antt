@@ -21,7 +21,7 @@ pub read-len-requires : need.read-len-requires
 read-len-requires g c κs =
     let q = c .args .self .now in
     let some : 0 < q .len = omega (arith, c .if-self-eq0 .left) in
-    (first-within q (c .read-entry .result) (place (q .start) 1 (capacity-of q)) some (c .read-entry .ensures) refl, c .if-out-lt-MAX-PAYLOAD .left)
+    (first-within q (c .read-entry .result) (place (q .start) 1 (capacity-of q)) some (c .read-entry .ensures) refl, omega arith)
 
 pub release-requires : need.release-requires
 release-requires g c κs =
@@ -69,7 +69,7 @@ returns g c =
     let m : Message (g .C .Denot) = record { subscriber = e .subscriber; content = c .read-len .result .0; len = c .read-len .result .1 } in
     let waiting = ap (map (note-at id (bodies-in q))) (first q e p some (c .read-entry .ensures) (c .place-of-self .ensures)) in
     let given = gives id n m out after refl (c .read-len .ensures .content) (c .read-len .ensures .len) (c .read-len .ensures .buffer) in
-    let room : 256 ≤ length out = c .if-out-lt-MAX-PAYLOAD .left in
+    let room : 256 ≤ length out = omega arith in
     record {
       answer = gives-answer id n ns m out after room given ∙ sym (ap (λ ws. take-answer ws (length out)) waiting);
       len = gives-len id n ns m out after room given ∙ sym (ap (λ ws. take-len ws (length out)) waiting);

@@ -24,7 +24,7 @@ returns g c =
     let ns = map (note-in id) next in
     let m = c .read-message .result in
     let after = c .read-message .last .out in
-    let room : 256 ≤ length out = c .if-out-lt-MAX-PAYLOAD .left in
+    let room : 256 ≤ length out = omega arith in
     record {
       answer = gives-answer id n ns m out after room (got .2) ∙ sym (ap (λ ws. take-answer ws (length out)) first);
       len = gives-len id n ns m out after room (got .2) ∙ sym (ap (λ ws. take-len ws (length out)) first);
