@@ -1,17 +1,15 @@
 -- What is read from the end of a log: the newest entry, whole and in its parts, and the log before it.
-use mathlib.Core.Bool.{Bool, true, false, cond, _&&_}
+use mathlib.Core.Bool.{true, _&&_}
 use mathlib.Core.List.{List, [], _∷_, _++_, append-assoc}
-use mathlib.Core.Path.{_≡_, refl, sym, ap, subst, _∙_}
-use Prim.Native.Nat.{ℕ, zero, suc, _+_, _-_, _^_, _<_, _≤_}
+use mathlib.Core.Path.{_≡_, refl, sym, ap, _∙_}
+use Prim.Native.Nat.{ℕ, zero, suc, _+_, _-_, _<_, _≤_}
 use native.Mathlib.Omega.{arith}
-use borrow.Author.Needs.{needs}
 use lib.Dec.{leb, ltb}
-use lib.ListN.{length, getD, take, drop, length-append, length-take, length-drop}
+use lib.ListN.{length, getD, take, drop, length-append}
 use Rattle.protocol.proofs.Bytes.{number-be}
 use Rattle.protocol.specs.Bytes.{be-bytes, be-number}
-use Rattle.std.proofs.shelf.Lists.{getD-take, getD-append-add, length-take-le, take-take, take-all, take-at, drop-at, drop-take, take-append-drop, append-nil}
+use Rattle.std.proofs.shelf.Lists.{getD-take, getD-append-add, length-take-le, take-all, take-at, drop-at, take-append-drop}
 use Rattle.std.proofs.shelf.Tests.{and-parts, ltb-true, leb-true, le-leb, lt-leb, cond-true, cond-false}
-use Rattle.std.proofs.shelf.Ways.{tells}
 use Rattle.store.specs.declared.key.Key.{Key}
 use Rattle.store.specs.Held.{Entry, proper, value-limit}
 use Rattle.log_store.specs.Format.{trailer, entry-bytes, encoded, key-at, len-at, entry-at, parsed, entries, fit, all-fit, Holds, Log}
@@ -59,11 +57,11 @@ module _ (bs p : List ℕ) (k : Key) (n end : ℕ) (lies : take end bs ≡ p ++ 
       let d = byte 3 (omega arith) in
       let g = byte 4 (omega arith) in
       let handles : be-number (getD bs (end - 7) 0 ∷ getD bs (end - 6) 0 ∷ getD bs (end - 5) 0 ∷ getD bs (end - 4) 0 ∷ []) ≡ k .handle .0
-          = ap (λ x. be-number (x ∷ getD bs (end - 6) 0 ∷ getD bs (end - 5) 0 ∷ getD bs (end - 4) 0 ∷ [])) a
-          ∙ ap (λ x. be-number (getD (be-bytes 4 (k .handle .0)) 0 0 ∷ x ∷ getD bs (end - 5) 0 ∷ getD bs (end - 4) 0 ∷ [])) b
-          ∙ ap (λ x. be-number (getD (be-bytes 4 (k .handle .0)) 0 0 ∷ getD (be-bytes 4 (k .handle .0)) 1 0 ∷ x ∷ getD bs (end - 4) 0 ∷ [])) c
-          ∙ ap (λ x. be-number (getD (be-bytes 4 (k .handle .0)) 0 0 ∷ getD (be-bytes 4 (k .handle .0)) 1 0 ∷ getD (be-bytes 4 (k .handle .0)) 2 0 ∷ x ∷ [])) d
-          ∙ number-be 4 (k .handle .0) h in
+      = ap (λ x. be-number (x ∷ getD bs (end - 6) 0 ∷ getD bs (end - 5) 0 ∷ getD bs (end - 4) 0 ∷ [])) a
+      ∙ ap (λ x. be-number (getD (be-bytes 4 (k .handle .0)) 0 0 ∷ x ∷ getD bs (end - 5) 0 ∷ getD bs (end - 4) 0 ∷ [])) b
+      ∙ ap (λ x. be-number (getD (be-bytes 4 (k .handle .0)) 0 0 ∷ getD (be-bytes 4 (k .handle .0)) 1 0 ∷ x ∷ getD bs (end - 4) 0 ∷ [])) c
+      ∙ ap (λ x. be-number (getD (be-bytes 4 (k .handle .0)) 0 0 ∷ getD (be-bytes 4 (k .handle .0)) 1 0 ∷ getD (be-bytes 4 (k .handle .0)) 2 0 ∷ x ∷ [])) d
+      ∙ number-be 4 (k .handle .0) h in
       ap (λ x. record { handle = record { 0 = x }; part = getD bs (end - 3) 0 }) handles
       ∙ ap (λ x. record { handle = k .handle; part = x }) g
 
@@ -101,7 +99,7 @@ top-of bs end e es l h f =
       room = omega arith;
       before = ap (λ k. take k bs) m ∙ ap (take (length (encoded es))) split ∙ take-at (encoded es) (entry-bytes e ++ drop end bs) (length (encoded es)) refl;
       value = ap (take (length (e .value))) (rest ∙ append-assoc (e .value) t (drop end bs)) ∙ take-at (e .value) (t ++ drop end bs) (length (e .value)) refl;
-      whole = ap (take (length (e .value) + 7)) rest ∙ take-at (entry-bytes e) (drop end bs) (length (e .value) + 7) (length-entry e)
+      whole = ap (take (length (e .value) + 7)) rest ∙ take-at (entry-bytes e) (drop end bs) (length (e .value) + 7) (length-entry e);
     }
 
 -- as many entries as are asked for are read back

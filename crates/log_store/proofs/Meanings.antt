@@ -2,7 +2,7 @@
 use mathlib.Core.Bool.{Bool, true, false, cond, not, _&&_}
 use mathlib.Core.List.{List, [], _∷_, _++_}
 use mathlib.Core.Logic.{_⊎_, inl, inr}
-use mathlib.Core.Path.{_≡_, refl, sym, ap, subst, _∙_}
+use mathlib.Core.Path.{_≡_, refl, sym, ap, _∙_}
 use Prim.Native.Nat.{ℕ, _+_, _-_, _*_, _/_, _<_, _≤_}
 use native.Mathlib.Omega.{arith}
 use lib.Dec.{leb}
@@ -14,7 +14,7 @@ use Rattle.std.specs.declared.option.Option.{Option}
 use Rattle.std.specs.declared.option.Option.the-variants.{Some, None}
 use Rattle.store.specs.declared.key.Key.{Key}
 use Rattle.store.specs.Held.{Entry, Sound, full, look, proper, put, remove, same-key}
-use Rattle.store.proofs.Maps.{key-is, length-put, length-remove, look-put, look-remove, one-map, same-key-like, same-key-refl, same-key-sym, sound-put, sound-remove}
+use Rattle.store.proofs.Maps.{key-is, length-put, length-remove, look-put, look-remove, one-map, same-key-like, same-key-sym, sound-put, sound-remove}
 use Rattle.log_store.specs.Format.{Holds, all-fit, encoded, entry-bytes, fit}
 use Rattle.log_store.specs.Logs.{meaning, sifted, stays}
 use Rattle.log_store.specs.Memories.{with-entry}
@@ -67,12 +67,12 @@ look-kept gone newer es e k h =
     ap (λ o. first o (without gone es k)) (look-oldest newer e k)
     ∙ first-assoc (look newer k) (cond (same-key (e .key) k) (Some (e .value)) None) (without gone es k)
     ∙ ap (first (look newer k))
-      (elim (cases-bool (same-key (e .key) k)) [
-        | inl y ↦ (
-            let n : same-key gone k ≡ false = ap (same-key gone) (sym (key-is (e .key) k y)) ∙ same-key-sym gone (e .key) ∙ h in
-            ap (λ o. first o (without gone es k)) (cond-true _ _ _ y) ∙ sym (cond-false _ _ _ n ∙ cond-true _ _ _ y))
-        | inr y ↦ ap (λ o. first o (without gone es k)) (cond-false _ _ _ y) ∙ sym (ap (cond (same-key gone k) None) (cond-false _ _ _ y))
-      ])
+    (elim (cases-bool (same-key (e .key) k)) [
+      | inl y ↦ (
+          let n : same-key gone k ≡ false = ap (same-key gone) (sym (key-is (e .key) k y)) ∙ same-key-sym gone (e .key) ∙ h in
+          ap (λ o. first o (without gone es k)) (cond-true _ _ _ y) ∙ sym (cond-false _ _ _ n ∙ cond-true _ _ _ y))
+      | inr y ↦ ap (λ o. first o (without gone es k)) (cond-false _ _ _ y) ∙ sym (ap (cond (same-key gone k) None) (cond-false _ _ _ y))
+    ])
 
 -- an entry that goes adds nothing
 look-gone : (gone : Key) (newer es : List Entry) (e : Entry) (k : Key) → (same-key (e .key) gone ≡ true) ⊎ (isSome (look newer (e .key)) ≡ true)
@@ -132,11 +132,11 @@ pub put-removed : (m : List Entry) (k : Key) (v : List ℕ) → proper k ≡ tru
 put-removed m k v p l s =
     one-map (put (remove m k) k v) (put m k v) (sound-put (remove m k) k v p l (sound-remove m k s)) (sound-put m k v p l s)
     (λ j _. look-put (remove m k) k v j
-      ∙ elim (cases-bool (same-key k j)) [
-        | inl y ↦ cond-true _ _ _ y ∙ sym (cond-true _ _ _ y)
-        | inr y ↦ cond-false _ _ _ y ∙ look-remove m k j s ∙ cond-false _ _ _ y ∙ sym (cond-false _ _ _ y)
-      ]
-      ∙ sym (look-put m k v j))
+    ∙ elim (cases-bool (same-key k j)) [
+      | inl y ↦ cond-true _ _ _ y ∙ sym (cond-true _ _ _ y)
+      | inr y ↦ cond-false _ _ _ y ∙ look-remove m k j s ∙ cond-false _ _ _ y ∙ sym (cond-false _ _ _ y)
+    ]
+    ∙ sym (look-put m k v j))
 
 -- no key has two entries
 abbrev Distinct : List Entry → Type 0
@@ -156,9 +156,10 @@ head-apart x xs k h =
 distinct-oldest : (es : List Entry) (e : Entry) → Distinct es → look es (e .key) ≡ None → Distinct (es ++ e ∷ [])
 distinct-oldest [] e d n = (refl, tt)
 distinct-oldest (x ∷ xs) e d n =
-    let a = head-apart x xs (e .key) n in
-    (look-oldest xs e (x .key) ∙ none-first _ _ (d .0) (cond-false _ _ _ (same-key-sym (e .key) (x .key) ∙ a)),
-    distinct-oldest xs e (d .1) (sym (cond-false _ _ _ a) ∙ n))
+    let a = head-apart x xs (e .key) n in (
+      look-oldest xs e (x .key) ∙ none-first _ _ (d .0) (cond-false _ _ _ (same-key-sym (e .key) (x .key) ∙ a)),
+      distinct-oldest xs e (d .1) (sym (cond-false _ _ _ a) ∙ n),
+    )
 
 pub not-some : (o : Option (List ℕ)) → isSome o ≡ false → o ≡ None
 not-some None h = refl
@@ -169,8 +170,8 @@ distinct-sifted gone newer [] d = d
 distinct-sifted gone newer (e ∷ es) d =
     distinct-sifted gone (cond (stays gone true newer (e .key)) (newer ++ e ∷ []) newer) es
     (cond-both (stays gone true newer (e .key)) (newer ++ e ∷ []) newer Distinct
-      (λ y. distinct-oldest newer e d (not-some _ (not-true _ (and-parts (not (same-key (e .key) gone)) (not (isSome (look newer (e .key)))) y .1))))
-      (λ _. d))
+    (λ y. distinct-oldest newer e d (not-some _ (not-true _ (and-parts (not (same-key (e .key) gone)) (not (isSome (look newer (e .key)))) y .1))))
+    (λ _. d))
 
 length-distinct : (es : List Entry) → all-fit es ≡ true → Distinct es → length (meaning es) ≡ length es
 length-distinct [] a d = refl

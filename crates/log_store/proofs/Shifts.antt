@@ -3,7 +3,7 @@ use mathlib.Core.List.{List, [], _∷_, _++_, append-assoc}
 use mathlib.Core.Path.{_≡_, refl, sym, ap, _∙_}
 use Prim.Native.Nat.{ℕ, suc, _+_, _-_, _<_, _≤_}
 use native.Mathlib.Omega.{arith}
-use lib.ListN.{length, getD, set, take, drop, length-take, length-drop}
+use lib.ListN.{length, getD, set, take, drop, length-drop}
 use Rattle.std.proofs.shelf.Lists.{getD-take, getD-drop, getD-append-left, length-take-le, set-at, take-more, drop-more, take-more-set, drop-set-lt, drop-drop, take-all, take-append-drop}
 
 -- a list whose bytes from `from` were moved up to `to`, but for the first i
@@ -16,12 +16,12 @@ up-at bs from to n j h l m =
     let X = take (n - (j + 1)) (drop (from + (j + 1)) bs) ++ drop (to + n) bs in
     let len : length (take (to + (j + 1)) bs) ≡ to + (j + 1) = length-take-le (to + (j + 1)) bs (omega arith) in
     let v : getD (moved-up bs from to n (j + 1)) (from + j) 0 ≡ getD bs (from + j) 0
-        = getD-append-left (take (to + (j + 1)) bs) X 0 (from + j) (omega arith) ∙ getD-take (to + (j + 1)) bs (from + j) 0 (omega arith) in
+    = getD-append-left (take (to + (j + 1)) bs) X 0 (from + j) (omega arith) ∙ getD-take (to + (j + 1)) bs (from + j) 0 (omega arith) in
     let t : take (to + (j + 1)) bs ≡ take (to + j) bs ++ getD bs (to + j) 0 ∷ [] = ap (λ k. take k bs) (omega arith) ∙ take-more bs (to + j) 0 (omega arith) in
     let d : take (n - j) (drop (from + j) bs) ≡ getD bs (from + j) 0 ∷ take (n - (j + 1)) (drop (from + (j + 1)) bs)
-        = ap (λ k. take k (drop (from + j) bs)) {x = n - j} {y = suc (n - (j + 1))} (omega arith)
-        ∙ ap (take (suc (n - (j + 1)))) (drop-more bs (from + j) 0 (omega arith))
-        ∙ ap (λ k. getD bs (from + j) 0 ∷ take (n - (j + 1)) (drop k bs)) (omega arith) in
+    = ap (λ k. take k (drop (from + j) bs)) {x = n - j} {y = suc (n - (j + 1))} (omega arith)
+    ∙ ap (take (suc (n - (j + 1)))) (drop-more bs (from + j) 0 (omega arith))
+    ∙ ap (λ k. getD bs (from + j) 0 ∷ take (n - (j + 1)) (drop k bs)) (omega arith) in
     ap (set (moved-up bs from to n (j + 1)) (to + j)) v
     ∙ ap (λ p. set (p ++ X) (to + j) (getD bs (from + j) 0)) t
     ∙ ap (λ p. set p (to + j) (getD bs (from + j) 0)) (append-assoc (take (to + j) bs) (getD bs (to + j) 0 ∷ []) X)
@@ -43,11 +43,11 @@ pub record Moved (bs xs : List ℕ) (from i : ℕ) : Type 0 where
 pub front-step : (bs xs : List ℕ) (from i : ℕ) → length xs ≡ length bs → from + i < length bs → Moved bs xs from i → Moved bs (set xs i (getD xs (from + i) 0)) from (i + 1)
 front-step bs xs from i e l m =
     let v : getD xs (from + i) 0 ≡ getD (drop from bs) i 0
-        = ap (λ k. getD xs k 0) (omega arith) ∙ sym (getD-drop i xs from 0) ∙ ap (λ x. getD x from 0) (m .back) ∙ getD-drop i bs from 0 ∙ ap (λ k. getD bs k 0) (omega arith) ∙ sym (getD-drop from bs i 0) in
+    = ap (λ k. getD xs k 0) (omega arith) ∙ sym (getD-drop i xs from 0) ∙ ap (λ x. getD x from 0) (m .back) ∙ getD-drop i bs from 0 ∙ ap (λ k. getD bs k 0) (omega arith) ∙ sym (getD-drop from bs i 0) in
     record {
       front = take-more-set xs i (getD xs (from + i) 0) (omega arith) ∙ ap (λ x. x ++ getD xs (from + i) 0 ∷ []) (m .front) ∙ ap (λ b. take i (drop from bs) ++ b ∷ []) v
-        ∙ sym (take-more (drop from bs) i 0 (omega (arith, length-drop from bs)));
-      back = drop-set-lt (i + 1) xs i (getD xs (from + i) 0) (omega arith) ∙ sym (drop-drop 1 i xs) ∙ ap (drop 1) (m .back) ∙ drop-drop 1 i bs
+          ∙ sym (take-more (drop from bs) i 0 (omega (arith, length-drop from bs)));
+      back = drop-set-lt (i + 1) xs i (getD xs (from + i) 0) (omega arith) ∙ sym (drop-drop 1 i xs) ∙ ap (drop 1) (m .back) ∙ drop-drop 1 i bs;
     }
 
 pub up-none : (bs : List ℕ) (from to n : ℕ) → bs ≡ moved-up bs from to n n

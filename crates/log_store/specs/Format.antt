@@ -26,7 +26,8 @@ encoded (e ∷ es) = encoded es ++ entry-bytes e
 unfoldable pub key-at : List ℕ → ℕ → Key
 key-at bs end = record {
   handle = record { 0 = be-number (getD bs (end - 7) 0 ∷ getD bs (end - 6) 0 ∷ getD bs (end - 5) 0 ∷ getD bs (end - 4) 0 ∷ []) };
-  part = getD bs (end - 3) 0 }
+  part = getD bs (end - 3) 0;
+}
 
 -- the value's length in the trailer that ends at a place
 unfoldable pub len-at : List ℕ → ℕ → ℕ
@@ -49,6 +50,7 @@ entries bs = parsed (length bs) bs
 abbrev pub fit : Entry → Bool
 fit e = proper (e .key) && ltb (e .key .handle .0) 4294967296 && leb (length (e .value)) value-limit
 
+-- every entry is one that a store keeps
 abbrev pub all-fit : List Entry → Bool
 all-fit [] = true
 all-fit (e ∷ es) = fit e && all-fit es

@@ -9,6 +9,7 @@ ghost use Rattle.log_store.specs.Memories.{contents, size};
 use crate::memory::Memory;
 
 // A store in the caller's bytes: a log, and how many keys have a value.
+#[derive(Drop)]
 pub struct LogStore<'a> {
     pub(crate) memory: Memory<'a>,
     pub(crate) count: usize,

@@ -17,7 +17,7 @@ use store::Key;
 use store::Store;
 use store::VALUE_LIMIT;
 
-// Whether there is no place for a key, held or not.
+// Whether a key finds no place: it is not held, and there are as many keys as can be.
 fn no_place(held: bool, count: usize, capacity: usize) -> bool
     ensures { λ r. ⌜ r ≡ not held && leb capacity count ⌝ }
 {
@@ -53,7 +53,10 @@ impl<'a> LogStore<'a> {
         ensures after { λ r. ⌜ contents (r .memory) ≡ [] ⌝ ∗ ⌜ meaning (entries (contents (r .memory))) ≡ [] ⌝ }
         ensures capacity { λ r. ⌜ size (r .memory) ≡ length (now (bytes .entry)) ⌝ }
     {
-        LogStore { memory: Memory { bytes, used: 0 }, count: 0 }
+        LogStore {
+            memory: Memory { bytes, used: 0 },
+            count: 0,
+        }
     }
 }
 

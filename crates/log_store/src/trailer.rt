@@ -31,10 +31,18 @@ pub fn read(bytes: &[u8], end: usize) -> Trailer
     ensures key { λ r. ⌜ r .key ≡ key-at (now (bytes .entry)) end ⌝ }
     ensures len { λ r. ⌜ r .len ≡ len-at (now (bytes .entry)) end ⌝ }
 {
-    let handle = u32::from_be_bytes([bytes[end - 7], bytes[end - 6], bytes[end - 5], bytes[end - 4]]);
+    let handle = u32::from_be_bytes([
+        bytes[end - 7],
+        bytes[end - 6],
+        bytes[end - 5],
+        bytes[end - 4],
+    ]);
     let len = u16::from_be_bytes([bytes[end - 2], bytes[end - 1]]);
     Trailer {
-        key: Key { handle: Handle(handle), part: bytes[end - 3] },
+        key: Key {
+            handle: Handle(handle),
+            part: bytes[end - 3],
+        },
         len: len as usize,
     }
 }

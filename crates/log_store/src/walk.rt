@@ -30,7 +30,10 @@ pub fn find(bytes: &[u8], key: Key) -> Option<Span>
         let trailer = read(bytes, end);
         let at = end - TRAILER - trailer.len;
         if trailer.key.is(key) {
-            return Some(Span { at, len: trailer.len });
+            return Some(Span {
+                at,
+                len: trailer.len,
+            });
         }
         end = at;
     }

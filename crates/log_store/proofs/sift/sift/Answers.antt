@@ -2,7 +2,7 @@ use borrow.Author.Needs.{needs}
 use native.Mathlib.Omega.{arith}
 use mathlib.Core.Bool.{true, false}
 use mathlib.Core.Path.{_≡_, refl, sym, ap, subst, _∙_}
-use Prim.Native.Nat.{_+_, _-_, _≤_}
+use Prim.Native.Nat.{_+_, _-_}
 use lib.ListN.{length, take, drop}
 use Rattle.std.proofs.shelf.Lists.{take-rest}
 use Rattle.log_store.specs.Format.{Log, entries, key-at}
@@ -53,9 +53,9 @@ loop-end-again-then-stays c =
     let n = sift-next (c .args .bytes .now) (c .args .gone) (c .args .dead) (c .loop-end .bytes) (c .loop-end .end) (c .loop-end .top) (c .loop-end .inv) (c .loop-end-test .taken) in
     let e = c .read-trailer .ensures .len in
     let h : stays (c .args .gone) (c .args .dead) (entries (drop (c .loop-end .top) (c .loop-end .bytes))) (key-at (c .loop-end .bytes) (c .loop-end .end)) ≡ true
-        = ap (λ bs. stays (c .args .gone) (c .args .dead) (entries bs) (key-at (c .loop-end .bytes) (c .loop-end .end))) (sym (take-rest (c .loop-end .bytes) (c .loop-end .top)))
-        ∙ ap (stays (c .args .gone) (c .args .dead) (entries (take (length (c .loop-end .bytes) - c .loop-end .top) (drop (c .loop-end .top) (c .loop-end .bytes))))) (sym (c .read-trailer .ensures .key))
-        ∙ sym (c .stays .ensures) ∙ c .if-stays .taken in
+    = ap (λ bs. stays (c .args .gone) (c .args .dead) (entries bs) (key-at (c .loop-end .bytes) (c .loop-end .end))) (sym (take-rest (c .loop-end .bytes) (c .loop-end .top)))
+    ∙ ap (stays (c .args .gone) (c .args .dead) (entries (take (length (c .loop-end .bytes) - c .loop-end .top) (drop (c .loop-end .top) (c .loop-end .bytes))))) (sym (c .read-trailer .ensures .key))
+    ∙ sym (c .stays .ensures) ∙ c .if-stays .taken in
     sift-keep (c .args .bytes .now) (c .args .gone) (c .args .dead) (c .loop-end .bytes) (c .move-up .last .bytes) (c .loop-end .end) (c .loop-end .top)
     (c .loop-end .end - (c .read-trailer .result .len + 7)) (c .read-trailer .result .len + 7) (c .loop-end .inv) n refl (omega arith) h (c .move-up .ensures)
 
@@ -64,9 +64,9 @@ loop-end-again c =
     let n = sift-next (c .args .bytes .now) (c .args .gone) (c .args .dead) (c .loop-end .bytes) (c .loop-end .end) (c .loop-end .top) (c .loop-end .inv) (c .loop-end-test .taken) in
     let e = c .read-trailer .ensures .len in
     let h : stays (c .args .gone) (c .args .dead) (entries (drop (c .loop-end .top) (c .loop-end .bytes))) (key-at (c .loop-end .bytes) (c .loop-end .end)) ≡ false
-        = ap (λ bs. stays (c .args .gone) (c .args .dead) (entries bs) (key-at (c .loop-end .bytes) (c .loop-end .end))) (sym (take-rest (c .loop-end .bytes) (c .loop-end .top)))
-        ∙ ap (stays (c .args .gone) (c .args .dead) (entries (take (length (c .loop-end .bytes) - c .loop-end .top) (drop (c .loop-end .top) (c .loop-end .bytes))))) (sym (c .read-trailer .ensures .key))
-        ∙ sym (c .stays .ensures) ∙ c .if-stays .left in
+    = ap (λ bs. stays (c .args .gone) (c .args .dead) (entries bs) (key-at (c .loop-end .bytes) (c .loop-end .end))) (sym (take-rest (c .loop-end .bytes) (c .loop-end .top)))
+    ∙ ap (stays (c .args .gone) (c .args .dead) (entries (take (length (c .loop-end .bytes) - c .loop-end .top) (drop (c .loop-end .top) (c .loop-end .bytes))))) (sym (c .read-trailer .ensures .key))
+    ∙ sym (c .stays .ensures) ∙ c .if-stays .left in
     sift-drop (c .args .bytes .now) (c .args .gone) (c .args .dead) (c .loop-end .bytes) (c .loop-end .end) (c .loop-end .top) (c .loop-end .end - (c .read-trailer .result .len + 7)) (c .loop-end .inv) n (omega arith) h
 
 pub sub-result : need.sub-result
@@ -80,5 +80,5 @@ returns c =
     record {
       len = omega (arith, c .move-to-front .kept .bytes, c .loop-end .inv .long);
       after = ap (λ k. take (k - c .loop-end .top) (c .move-to-front .last .bytes)) (sym (c .loop-end .inv .long)) ∙ c .move-to-front .ensures
-        ∙ sift-end (c .args .bytes .now) (c .args .gone) (c .args .dead) (c .loop-end .bytes) (c .loop-end .end) (c .loop-end .top) (c .loop-end-test .left) (c .loop-end .inv)
+          ∙ sift-end (c .args .bytes .now) (c .args .gone) (c .args .dead) (c .loop-end .bytes) (c .loop-end .end) (c .loop-end .top) (c .loop-end-test .left) (c .loop-end .inv);
     }

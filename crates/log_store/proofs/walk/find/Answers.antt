@@ -1,7 +1,7 @@
 use native.Mathlib.Omega.{arith}
 use mathlib.Core.Bool.{true, false}
-use mathlib.Core.Path.{_≡_, refl, sym, ap, subst, _∙_}
-use Prim.Native.Nat.{_+_, _-_, _≤_}
+use mathlib.Core.Path.{_≡_, sym, ap, subst, _∙_}
+use Prim.Native.Nat.{_-_}
 use lib.ListN.{length, take, drop}
 use Rattle.std.proofs.shelf.Lists.{take-all}
 use Rattle.std.specs.declared.option.Option.the-variants.{Some}
@@ -40,7 +40,7 @@ returns-then-is c =
     let h : same-key (key-at bs end) (c .args .key) ≡ true = ap (λ (j : Key). same-key j (c .args .key)) (sym (c .read-trailer .ensures .key)) ∙ sym (c .is .ensures) ∙ c .if-is .taken in
     record {
       value = ap (λ k. Some (take k (drop (end - 7 - k) bs))) (c .read-trailer .ensures .len) ∙ sym (look-hit bs end (c .args .key) n h) ∙ c .loop-end .inv .2;
-      within = (let r = room bs end n in let l = c .loop-end .inv .0 in let e = c .read-trailer .ensures .len in (omega arith, omega arith))
+      within = (let r = room bs end n in let l = c .loop-end .inv .0 in let e = c .read-trailer .ensures .len in (omega arith, omega arith));
     }
 
 pub loop-end-again : need.loop-end-again
@@ -49,14 +49,15 @@ loop-end-again c =
     let end = c .loop-end .end in
     let n = newest bs end (c .loop-end .inv .0) (omega arith) (c .loop-end .inv .1) in
     let e = c .read-trailer .ensures .len in
-    let h : same-key (key-at bs end) (c .args .key) ≡ false = ap (λ (j : Key). same-key j (c .args .key)) (sym (c .read-trailer .ensures .key)) ∙ sym (c .is .ensures) ∙ c .if-is .left in
-    (let l = c .loop-end .inv .0 in omega arith,
-    subst (λ k. Log (take (end - 7 - k) bs)) (sym e) (left-log bs end n),
-    ap (λ k. look (entries (take (end - 7 - k) bs)) (c .args .key)) e ∙ look-miss bs end (c .args .key) n h ∙ c .loop-end .inv .2)
+    let h : same-key (key-at bs end) (c .args .key) ≡ false = ap (λ (j : Key). same-key j (c .args .key)) (sym (c .read-trailer .ensures .key)) ∙ sym (c .is .ensures) ∙ c .if-is .left in (
+      let l = c .loop-end .inv .0 in omega arith,
+      subst (λ k. Log (take (end - 7 - k) bs)) (sym e) (left-log bs end n),
+      ap (λ k. look (entries (take (end - 7 - k) bs)) (c .args .key)) e ∙ look-miss bs end (c .args .key) n h ∙ c .loop-end .inv .2,
+    )
 
 pub returns : need.returns
 returns c =
     record {
       value = sym (sym (c .loop-end .inv .2) ∙ ap (λ k. look (entries (take k (c .args .bytes .now))) (c .args .key)) {x = c .loop-end .end} {y = 0} (omega arith) ∙ ap (λ es. look es (c .args .key)) entries-none);
-      within = tt
+      within = tt;
     }

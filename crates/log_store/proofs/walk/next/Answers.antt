@@ -1,5 +1,5 @@
 use native.Mathlib.Omega.{arith}
-use mathlib.Core.Path.{_≡_, refl, sym, ap, subst, _∙_}
+use mathlib.Core.Path.{sym, ap, subst, _∙_}
 use Prim.Native.Nat.{_-_}
 use lib.ListN.{length, take}
 use Rattle.std.proofs.shelf.Lists.{take-all}
@@ -38,13 +38,14 @@ loop-end-again c =
     let bs = c .args .bytes .now in
     let end = c .loop-end .end in
     let n = newest bs end (c .loop-end .inv .0) (omega arith) (c .loop-end .inv .1) in
-    let e = c .read-trailer .ensures .len in
-    (let l = c .loop-end .inv .0 in omega arith,
-    subst (λ k. Log (take (end - 7 - k) bs)) (sym e) (left-log bs end n),
-    ap (λ k. lower (mapped (λ h. h .0) (c .lower-best .result)) (lowest (entries (take (end - 7 - k) bs)) (c .args .after .0))) e
-    ∙ lowest-step bs end (c .args .after .0) (mapped (λ h. h .0) (c .loop-end .best)) (mapped (λ h. h .0) (c .lower-best .result)) n
-      (c .lower-best .ensures ∙ ap (λ (k : Key). lower (mapped (λ h. h .0) (c .loop-end .best)) (candidate k (c .args .after .0))) (c .read-trailer .ensures .key))
-    ∙ c .loop-end .inv .2)
+    let e = c .read-trailer .ensures .len in (
+      let l = c .loop-end .inv .0 in omega arith,
+      subst (λ k. Log (take (end - 7 - k) bs)) (sym e) (left-log bs end n),
+      ap (λ k. lower (mapped (λ h. h .0) (c .lower-best .result)) (lowest (entries (take (end - 7 - k) bs)) (c .args .after .0))) e
+          ∙ lowest-step bs end (c .args .after .0) (mapped (λ h. h .0) (c .loop-end .best)) (mapped (λ h. h .0) (c .lower-best .result)) n
+          (c .lower-best .ensures ∙ ap (λ (k : Key). lower (mapped (λ h. h .0) (c .loop-end .best)) (candidate k (c .args .after .0))) (c .read-trailer .ensures .key))
+          ∙ c .loop-end .inv .2,
+    )
 
 pub returns : need.returns
 returns c =

@@ -29,6 +29,6 @@ returns c =
       len = search (needs, places);
       within = search (needs, places);
       after = take-putMid end (end + 7 - end) mid two (end + 7) (omega arith) long
-        ∙ ap (λ x. x ++ two) (take-putMid from (end - from) bs one end (omega arith) (omega (arith, c .pre)))
-        ∙ ap (λ x. (take from bs ++ x) ++ two) a ∙ ap (λ x. (take from bs ++ v) ++ x) b ∙ append-assoc (take from bs) v (trailer (c .args .key) (length v))
+          ∙ ap (λ x. x ++ two) (take-putMid from (end - from) bs one end (omega arith) (omega (arith, c .pre)))
+          ∙ ap (λ x. (take from bs ++ x) ++ two) a ∙ ap (λ x. (take from bs ++ v) ++ x) b ∙ append-assoc (take from bs) v (trailer (c .args .key) (length v));
     }

@@ -15,8 +15,8 @@ returns-in-Some c =
     let used = c .args .self .now .used in
     let f = c .in-Some .ensures tt in
     let q : look (entries (take used bs)) (c .args .key) ≡ Some (take (c .in-Some .span .at + c .in-Some .span .len - c .in-Some .span .at) (drop (c .in-Some .span .at) bs))
-        = ap (λ k. look (entries (take k bs)) (c .args .key)) {x = used} {y = used - 0} (omega arith) ∙ sym (f .value) ∙ ap Some (part-of bs used (c .in-Some .span .at) (c .in-Some .span .len) (c .pre .0 .0) (f .within .0)) in
+    = ap (λ k. look (entries (take k bs)) (c .args .key)) {x = used} {y = used - 0} (omega arith) ∙ sym (f .value) ∙ ap Some (part-of bs used (c .in-Some .span .at) (c .in-Some .span .len) (c .pre .0 .0) (f .within .0)) in
     record {
       answer = ap Some (c .give .ensures .value) ∙ sym (ap (mapped length) q);
-      buffer = c .give .ensures .buffer ∙ sym (ap (λ o. laid o (c .args .out .now)) q)
+      buffer = c .give .ensures .buffer ∙ sym (ap (λ o. laid o (c .args .out .now)) q);
     }

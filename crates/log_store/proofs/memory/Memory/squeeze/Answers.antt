@@ -15,5 +15,5 @@ returns c =
       len = search (needs, places);
       within = search (needs, places);
       after = take-append-le (c .sift-self .result) (c .sift-self .last .bytes) _ (c .sift-self .ensures .len) ∙ c .sift-self .ensures .after
-        ∙ ap (λ k. encoded (sifted (c .args .gone) (c .args .dead) [] (entries (take k (c .args .self .now .bytes .now))))) {x = c .args .self .now .used - 0} {y = c .args .self .now .used} (omega arith)
+          ∙ ap (λ k. encoded (sifted (c .args .gone) (c .args .dead) [] (entries (take k (c .args .self .now .bytes .now))))) {x = c .args .self .now .used - 0} {y = c .args .self .now .used} (omega arith);
     }

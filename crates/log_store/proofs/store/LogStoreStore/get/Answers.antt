@@ -17,5 +17,5 @@ returns c =
     let e = look-meaning es (c .args .key) in
     record {
       answer = ap Ok (c .get .ensures .answer) ∙ sym (get-answers (meaning es) (c .args .key) (length (c .args .out .now)) (look es (c .args .key)) p (c .if-out-lt-VALUE-LIMIT .left) e);
-      buffer = c .get .ensures .buffer ∙ sym (get-fills (meaning es) (c .args .key) (c .args .out .now) (look es (c .args .key)) p (c .if-out-lt-VALUE-LIMIT .left) e)
+      buffer = c .get .ensures .buffer ∙ sym (get-fills (meaning es) (c .args .key) (c .args .out .now) (look es (c .args .key)) p (c .if-out-lt-VALUE-LIMIT .left) e);
     }

@@ -20,11 +20,11 @@ returns-then-no-place c =
     let es = entries (contents (s .memory)) in
     let p : proper (c .args .key) ≡ true = sym (c .is-proper .ensures) ∙ c .if-not-is-proper .left in
     let f : c .no-place .result ≡ full (meaning es) (size (s .memory) / 583) (c .args .key)
-        = full-is es (c .args .key) (size (s .memory) / 583) (s .count) (c .capacity .result) (c .holds-held .result) (c .no-place .result) p (c .holds-held .ensures) (c .capacity .ensures) (s .counted) (c .no-place .ensures) in
+    = full-is es (c .args .key) (size (s .memory) / 583) (s .count) (c .capacity .result) (c .holds-held .result) (c .no-place .result) p (c .holds-held .ensures) (c .capacity .ensures) (s .counted) (c .no-place .ensures) in
     record {
       answer = sym (put-full (meaning es) (size (s .memory) / 583) (c .args .key) (c .args .value .now) p (c .if-value-gt-VALUE-LIMIT .left) (sym f ∙ c .if-no-place .taken));
       after = refl;
-      capacity = refl
+      capacity = refl;
     }
 
 pub put-requires : need.put-requires
@@ -33,7 +33,7 @@ put-requires c κs =
     let es = entries (contents (s .memory)) in
     let p : proper (c .args .key) ≡ true = sym (c .is-proper .ensures) ∙ c .if-not-is-proper .left in
     let f : c .no-place .result ≡ full (meaning es) (size (s .memory) / 583) (c .args .key)
-        = full-is es (c .args .key) (size (s .memory) / 583) (s .count) (c .capacity .result) (c .holds-held .result) (c .no-place .result) p (c .holds-held .ensures) (c .capacity .ensures) (s .counted) (c .no-place .ensures) in
+    = full-is es (c .args .key) (size (s .memory) / 583) (s .count) (c .capacity .result) (c .holds-held .result) (c .no-place .result) p (c .holds-held .ensures) (c .capacity .ensures) (s .counted) (c .no-place .ensures) in
     let b : length (meaning es) ≤ size (s .memory) / 583 = omega (arith, s .counted, s .bounded) in
     ((s .within, record { bytes = s .log; fits = s .fits }), (c .if-value-gt-VALUE-LIMIT .left, room-sifted es (c .args .key) (size (s .memory)) (s .fits) p b (sym f ∙ c .if-no-place .left)))
 
@@ -43,11 +43,11 @@ count-with-self-requires c κs =
     let es = entries (contents (s .memory)) in
     let p : proper (c .args .key) ≡ true = sym (c .is-proper .ensures) ∙ c .if-not-is-proper .left in
     let f : c .no-place .result ≡ full (meaning es) (size (s .memory) / 583) (c .args .key)
-        = full-is es (c .args .key) (size (s .memory) / 583) (s .count) (c .capacity .result) (c .holds-held .result) (c .no-place .result) p (c .holds-held .ensures) (c .capacity .ensures) (s .counted) (c .no-place .ensures) in
+    = full-is es (c .args .key) (size (s .memory) / 583) (s .count) (c .capacity .result) (c .holds-held .result) (c .no-place .result) p (c .holds-held .ensures) (c .capacity .ensures) (s .counted) (c .no-place .ensures) in
     let b : length (meaning es) ≤ size (s .memory) / 583 = omega (arith, s .counted, s .bounded) in
     let q = place-for es (c .args .key) (size (s .memory) / 583) p b (sym f ∙ c .if-no-place .left) in
     let n : s .count + cond (c .holds-held .result) 0 1 ≡ length (meaning es) + cond (isSome (look es (c .args .key))) 0 1
-        = ap (λ i. i + cond (c .holds-held .result) 0 1) (s .counted) ∙ ap (λ h. length (meaning es) + cond h 0 1) (c .holds-held .ensures) in
+    = ap (λ i. i + cond (c .holds-held .result) 0 1) (s .counted) ∙ ap (λ h. length (meaning es) + cond h 0 1) (c .holds-held .ensures) in
     let l = c .capacity .ok in
     let e = c .capacity .ensures in
     omega arith
@@ -58,12 +58,12 @@ ghost-self c =
     let es = entries (contents (s .memory)) in
     let p : proper (c .args .key) ≡ true = sym (c .is-proper .ensures) ∙ c .if-not-is-proper .left in
     let f : c .no-place .result ≡ full (meaning es) (size (s .memory) / 583) (c .args .key)
-        = full-is es (c .args .key) (size (s .memory) / 583) (s .count) (c .capacity .result) (c .holds-held .result) (c .no-place .result) p (c .holds-held .ensures) (c .capacity .ensures) (s .counted) (c .no-place .ensures) in
+    = full-is es (c .args .key) (size (s .memory) / 583) (s .count) (c .capacity .result) (c .holds-held .result) (c .no-place .result) p (c .holds-held .ensures) (c .capacity .ensures) (s .counted) (c .no-place .ensures) in
     let b : length (meaning es) ≤ size (s .memory) / 583 = omega (arith, s .counted, s .bounded) in
     let n : c .count-with-self .result ≡ length (meaning es) + cond (isSome (look es (c .args .key))) 0 1
-        = c .count-with-self .ensures ∙ ap (λ i. i + cond (c .holds-held .result) 0 1) (s .counted) ∙ ap (λ h. length (meaning es) + cond h 0 1) (c .holds-held .ensures) in
+    = c .count-with-self .ensures ∙ ap (λ i. i + cond (c .holds-held .result) 0 1) (s .counted) ∙ ap (λ h. length (meaning es) + cond h 0 1) (c .holds-held .ensures) in
     let k = put-kept (contents (c .put .last .self)) es (record { key = c .args .key; value = c .args .value .now }) (size (s .memory)) (c .count-with-self .result) (s .fits)
-        (entry-fits (c .args .key) (c .args .value .now) p (search needs) (c .if-value-gt-VALUE-LIMIT .left)) (c .put .ensures .after) n in
+    (entry-fits (c .args .key) (c .args .value .now) p (search needs) (c .if-value-gt-VALUE-LIMIT .left)) (c .put .ensures .after) n in
     let q = place-for es (c .args .key) (size (s .memory) / 583) p b (sym f ∙ c .if-no-place .left) in
     let z : size (c .put .last .self) ≡ size (s .memory) = c .put .ensures .len in
     let y : c .count-with-self .result ≤ size (s .memory) / 583 = omega arith in
@@ -75,13 +75,13 @@ returns c =
     let es = entries (contents (s .memory)) in
     let p : proper (c .args .key) ≡ true = sym (c .is-proper .ensures) ∙ c .if-not-is-proper .left in
     let f : c .no-place .result ≡ full (meaning es) (size (s .memory) / 583) (c .args .key)
-        = full-is es (c .args .key) (size (s .memory) / 583) (s .count) (c .capacity .result) (c .holds-held .result) (c .no-place .result) p (c .holds-held .ensures) (c .capacity .ensures) (s .counted) (c .no-place .ensures) in
+    = full-is es (c .args .key) (size (s .memory) / 583) (s .count) (c .capacity .result) (c .holds-held .result) (c .no-place .result) p (c .holds-held .ensures) (c .capacity .ensures) (s .counted) (c .no-place .ensures) in
     let n : c .count-with-self .result ≡ length (meaning es) + cond (isSome (look es (c .args .key))) 0 1
-        = c .count-with-self .ensures ∙ ap (λ i. i + cond (c .holds-held .result) 0 1) (s .counted) ∙ ap (λ h. length (meaning es) + cond h 0 1) (c .holds-held .ensures) in
+    = c .count-with-self .ensures ∙ ap (λ i. i + cond (c .holds-held .result) 0 1) (s .counted) ∙ ap (λ h. length (meaning es) + cond h 0 1) (c .holds-held .ensures) in
     let k = put-kept (contents (c .put .last .self)) es (record { key = c .args .key; value = c .args .value .now }) (size (s .memory)) (c .count-with-self .result) (s .fits)
-        (entry-fits (c .args .key) (c .args .value .now) p (search needs) (c .if-value-gt-VALUE-LIMIT .left)) (c .put .ensures .after) n in
+    (entry-fits (c .args .key) (c .args .value .now) p (search needs) (c .if-value-gt-VALUE-LIMIT .left)) (c .put .ensures .after) n in
     record {
       answer = sym (put-answers (meaning es) (size (s .memory) / 583) (c .args .key) (c .args .value .now) p (c .if-value-gt-VALUE-LIMIT .left) (sym f ∙ c .if-no-place .left));
       after = k .means;
-      capacity = ap (λ i. i / 583) (c .put .ensures .len)
+      capacity = ap (λ i. i / 583) (c .put .ensures .len);
     }

@@ -21,7 +21,7 @@ returns-then-not-holds c =
     record {
       answer = sym (remove-answers (meaning es) (c .args .key) false p h);
       after = sym (remove-absent (meaning es) (c .args .key) (not-some _ h));
-      capacity = refl
+      capacity = refl;
     }
 
 pub sub-self : need.sub-self
@@ -48,5 +48,5 @@ returns c =
     record {
       answer = sym (remove-answers (meaning es) (c .args .key) true p (ap isSome (look-meaning es (c .args .key)) ∙ h));
       after = k .means;
-      capacity = ap (λ i. i / 583) (c .squeeze .ensures .len)
+      capacity = ap (λ i. i / 583) (c .squeeze .ensures .len);
     }
