@@ -1,17 +1,15 @@
 -- What is read from the end of a log: the newest entry, whole and in its parts, and the log before it.
-use mathlib.Core.Bool.{Bool, true, false, cond, _&&_}
+use mathlib.Core.Bool.{true, _&&_}
 use mathlib.Core.List.{List, [], _∷_, _++_, append-assoc}
-use mathlib.Core.Path.{_≡_, refl, sym, ap, subst, _∙_}
-use Prim.Native.Nat.{ℕ, zero, suc, _+_, _-_, _^_, _<_, _≤_}
+use mathlib.Core.Path.{_≡_, refl, sym, ap, _∙_}
+use Prim.Native.Nat.{ℕ, zero, suc, _+_, _-_, _<_, _≤_}
 use native.Mathlib.Omega.{arith}
-use borrow.Author.Needs.{needs}
 use lib.Dec.{leb, ltb}
-use lib.ListN.{length, getD, take, drop, length-append, length-take, length-drop}
+use lib.ListN.{length, getD, take, drop, length-append}
 use Rattle.protocol.proofs.Bytes.{number-be}
 use Rattle.protocol.specs.Bytes.{be-bytes, be-number}
-use Rattle.std.proofs.shelf.Lists.{getD-take, getD-append-add, length-take-le, take-take, take-all, take-at, drop-at, drop-take, take-append-drop, append-nil}
+use Rattle.std.proofs.shelf.Lists.{getD-take, getD-append-add, length-take-le, take-all, take-at, drop-at, take-append-drop}
 use Rattle.std.proofs.shelf.Tests.{and-parts, ltb-true, leb-true, le-leb, lt-leb, cond-true, cond-false}
-use Rattle.std.proofs.shelf.Ways.{tells}
 use Rattle.store.specs.declared.key.Key.{Key}
 use Rattle.store.specs.Held.{Entry, proper, value-limit}
 use Rattle.log_store.specs.Format.{trailer, entry-bytes, encoded, key-at, len-at, entry-at, parsed, entries, fit, all-fit, Holds, Log}

@@ -2,7 +2,7 @@
 use mathlib.Core.Bool.{Bool, true, false, cond, not, _&&_}
 use mathlib.Core.List.{List, [], _∷_, _++_}
 use mathlib.Core.Logic.{_⊎_, inl, inr}
-use mathlib.Core.Path.{_≡_, refl, sym, ap, subst, _∙_}
+use mathlib.Core.Path.{_≡_, refl, sym, ap, _∙_}
 use Prim.Native.Nat.{ℕ, _+_, _-_, _*_, _/_, _<_, _≤_}
 use native.Mathlib.Omega.{arith}
 use lib.Dec.{leb}
@@ -14,7 +14,7 @@ use Rattle.std.specs.declared.option.Option.{Option}
 use Rattle.std.specs.declared.option.Option.the-variants.{Some, None}
 use Rattle.store.specs.declared.key.Key.{Key}
 use Rattle.store.specs.Held.{Entry, Sound, full, look, proper, put, remove, same-key}
-use Rattle.store.proofs.Maps.{key-is, length-put, length-remove, look-put, look-remove, one-map, same-key-like, same-key-refl, same-key-sym, sound-put, sound-remove}
+use Rattle.store.proofs.Maps.{key-is, length-put, length-remove, look-put, look-remove, one-map, same-key-like, same-key-sym, sound-put, sound-remove}
 use Rattle.log_store.specs.Format.{Holds, all-fit, encoded, entry-bytes, fit}
 use Rattle.log_store.specs.Logs.{meaning, sifted, stays}
 use Rattle.log_store.specs.Memories.{with-entry}

@@ -3,7 +3,7 @@ use mathlib.Core.List.{List, [], _∷_, _++_, append-assoc}
 use mathlib.Core.Path.{_≡_, refl, sym, ap, _∙_}
 use Prim.Native.Nat.{ℕ, suc, _+_, _-_, _<_, _≤_}
 use native.Mathlib.Omega.{arith}
-use lib.ListN.{length, getD, set, take, drop, length-take, length-drop}
+use lib.ListN.{length, getD, set, take, drop, length-drop}
 use Rattle.std.proofs.shelf.Lists.{getD-take, getD-drop, getD-append-left, length-take-le, set-at, take-more, drop-more, take-more-set, drop-set-lt, drop-drop, take-all, take-append-drop}
 
 -- a list whose bytes from `from` were moved up to `to`, but for the first i

@@ -1,12 +1,12 @@
 -- A log while entries are squeezed out: what is not yet looked at in front, and what stays at the end.
-use mathlib.Core.Bool.{Bool, true, false, cond, _&&_}
+use mathlib.Core.Bool.{Bool, true, false, cond}
 use mathlib.Core.List.{List, [], _∷_, _++_, append-assoc}
 use mathlib.Core.Path.{_≡_, refl, sym, ap, subst, _∙_}
 use Prim.Native.Nat.{ℕ, _+_, _-_, _<_, _≤_}
 use native.Mathlib.Omega.{arith}
 use lib.ListN.{length, take, drop, length-append, length-drop}
-use Rattle.std.proofs.shelf.Lists.{append-nil, length-take-le, take-all, take-at, take-append-le, drop-all, drop-at, take-take}
-use Rattle.std.proofs.shelf.Tests.{cond-true, cond-false, and-from, and-parts}
+use Rattle.std.proofs.shelf.Lists.{append-nil, length-take-le, take-all, take-append-le, drop-all, drop-at, take-take}
+use Rattle.std.proofs.shelf.Tests.{and-from, and-parts}
 use Rattle.store.specs.declared.key.Key.{Key}
 use Rattle.store.specs.Held.{Entry}
 use Rattle.log_store.specs.Format.{encoded, entry-bytes, key-at, len-at, entries, fit, all-fit, Holds, Log}

@@ -1,8 +1,8 @@
 -- A log store after a put or a remove: its log, its count and its map.
 use mathlib.Core.Bool.{Bool, true, false, cond, not, _&&_}
 use mathlib.Core.List.{List, []}
-use mathlib.Core.Path.{_≡_, refl, sym, ap, _∙_}
-use Prim.Native.Nat.{ℕ, _+_, _-_, _/_, _<_, _≤_}
+use mathlib.Core.Path.{_≡_, sym, ap, _∙_}
+use Prim.Native.Nat.{ℕ, _+_, _-_, _<_, _≤_}
 use native.Mathlib.Omega.{arith}
 use lib.Dec.{leb, ltb}
 use lib.ListN.{length}
@@ -10,7 +10,7 @@ use Rattle.std.proofs.shelf.Tests.{and-from, le-leb, lt-ltb}
 use Rattle.std.proofs.shelf.Ways.{tells}
 use Rattle.std.specs.Options.{isSome}
 use Rattle.store.specs.declared.key.Key.{Key}
-use Rattle.store.specs.Held.{Entry, full, look, proper, put, remove, same-key, value-limit}
+use Rattle.store.specs.Held.{Entry, full, look, proper, put, remove, value-limit}
 use Rattle.store.proofs.Maps.{length-put, length-remove}
 use Rattle.log_store.specs.Format.{Holds, all-fit, encoded, entries, fit}
 use Rattle.log_store.specs.Logs.{meaning, sifted}

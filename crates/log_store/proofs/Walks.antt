@@ -1,17 +1,16 @@
 -- A walk back over a log: what each step finds, and what it leaves to be looked at.
-use mathlib.Core.Bool.{Bool, true, false, cond}
-use mathlib.Core.List.{List, [], _∷_, _++_}
-use mathlib.Core.Path.{_≡_, refl, sym, ap, subst, _∙_}
+use mathlib.Core.Bool.{true, false}
+use mathlib.Core.List.{List, [], _∷_}
+use mathlib.Core.Path.{_≡_, refl, sym, ap, _∙_}
 use Prim.Native.Nat.{ℕ, _+_, _-_, _<_, _≤_}
 use native.Mathlib.Omega.{arith}
 use lib.ListN.{length, take, drop}
 use Rattle.std.proofs.shelf.Lists.{drop-take, length-take-le, take-take}
 use Rattle.std.proofs.shelf.Tests.{cond-true, cond-false}
-use Rattle.std.specs.declared.option.Option.{Option}
-use Rattle.std.specs.declared.option.Option.the-variants.{Some, None}
+use Rattle.std.specs.declared.option.Option.the-variants.{Some}
 use Rattle.store.specs.declared.key.Key.{Key}
 use Rattle.store.specs.Held.{Entry, look, same-key}
-use Rattle.log_store.specs.Format.{encoded, key-at, len-at, entries, fit, all-fit, Holds, Log}
+use Rattle.log_store.specs.Format.{key-at, len-at, entries, fit, Holds, Log}
 use Rattle.log_store.proofs.Format.{Top, top-of, fit-first, fit-rest, fit-parts, entries-are, log-from}
 
 -- the newest entry of the log up to a place that is not its start

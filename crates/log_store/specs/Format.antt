@@ -50,6 +50,7 @@ entries bs = parsed (length bs) bs
 abbrev pub fit : Entry → Bool
 fit e = proper (e .key) && ltb (e .key .handle .0) 4294967296 && leb (length (e .value)) value-limit
 
+-- every entry is one that a store keeps
 abbrev pub all-fit : List Entry → Bool
 all-fit [] = true
 all-fit (e ∷ es) = fit e && all-fit es

@@ -16,7 +16,7 @@ use store::Key;
 use store::Store;
 use store::VALUE_LIMIT;
 
-// Whether there is no place for a key, held or not.
+// Whether a key finds no place: it is not held, and there are as many keys as can be.
 fn no_place(held: bool, count: usize, capacity: usize) -> bool
     ensures { λ r. ⌜ r ≡ not held && leb capacity count ⌝ }
 {

@@ -1,9 +1,8 @@
 use mathlib.Core.Path.{refl, ap, _∙_}
-use mathlib.Core.List.{List, [], _∷_}
+use mathlib.Core.List.{[], _∷_}
 use Prim.Native.Nat.{ℕ, _-_}
 use lib.ListN.{getD}
 use Rattle.protocol.proofs.Bytes.{number2, number4}
-use Rattle.store.specs.declared.key.Key.{Key}
 use Rattle.log_store.specs.Format.{key-at, len-at}
 use Rattle.log_store.proofs.trailer.read.Needs as need
 

@@ -1,5 +1,4 @@
 use borrow.Author.Needs.{needs}
-use native.Mathlib.Omega.{arith}
 use Rattle.log_store.specs.Format.{trailer}
 use Rattle.log_store.proofs.trailer.write.Needs as need
 

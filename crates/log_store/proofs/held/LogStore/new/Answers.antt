@@ -1,5 +1,4 @@
 use borrow.Author.Needs.{needs}
-use native.Mathlib.Omega.{arith}
 use mathlib.Core.Path.{refl, sym, ap}
 use lib.ListN.{length}
 use Rattle.log_store.specs.Format.{all-fit, encoded}
