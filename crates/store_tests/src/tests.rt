@@ -2,6 +2,7 @@
 use crate::cases::EDGES;
 use crate::cases::FULL;
 use crate::cases::Step;
+use log_store::with_log;
 use protocol::FaultDebug;
 use protocol::FaultPartialEq;
 use protocol::Handle;
@@ -11,6 +12,7 @@ use protocol::RefusalPartialEq;
 use std::test::*;
 use store::Key;
 use store::Store;
+use store::Work;
 use table_store::TableStore;
 use table_store::TableStoreStore;
 
@@ -148,4 +150,28 @@ fn check_store<S: Store>(store: &mut S) -> Result<(), Fail> {
 #[test]
 fn table_store() -> Result<(), Fail> {
     check_store(&mut TableStore::new())
+}
+
+// The whole table, as work on any store.
+#[derive(Clone, Copy)]
+struct Table;
+
+impl Work for Table as TableWork {
+    type Output = Result<(), Fail>;
+
+    ghost done = { λ _ _ _ _. Unit {0} };
+
+    fn run<S: Store>(self, store: &mut S) -> Result<(), Fail> {
+        check_store(store)
+    }
+}
+
+// A log with room for as many keys as the table has.
+#[test]
+fn log_store() -> Result<(), Fail> {
+    let mut memory = [BEFORE; 37312];
+    match with_log(&mut memory, Table) {
+        Ok(outcome) => outcome,
+        Err(refusal) => check_eq(Err(refusal), Ok(())),
+    }
 }

@@ -7,15 +7,9 @@ use Rattle.std.specs.Orderings.{Decides}
 use Rattle.std.proofs.shelf.Ways.{decides-and, decides-eqb, decides-like, decides-at, same-from-decides}
 use Rattle.std.proofs.shelf.Tests.{and-left, and-right, eq-eqb, ne-eqb}
 use Rattle.clients.specs.Subs.{Sub}
-use Rattle.subscribers.specs.Standing.{Standing, alike, same-sub, same-pair}
-
-pub alike-decides : (xs ys : List ℕ) → Decides (alike xs ys) (xs ≡ ys)
-alike-decides [] [] = ((λ _. refl), (λ _. refl))
-alike-decides [] (y ∷ ys) = ((λ e. cc), (λ e. cc))
-alike-decides (x ∷ xs) [] = ((λ e. cc), (λ e. cc))
-alike-decides (x ∷ xs) (y ∷ ys) =
-    decides-like (alike (x ∷ xs) (y ∷ ys)) (λ e. ap (λ z. z ∷ xs) (e .0) ∙ ap (λ zs. y ∷ zs) (e .1)) (λ e. ((cc), (cc)))
-    (decides-and _ _ (decides-eqb x y) (alike-decides xs ys))
+use Rattle.protocol.specs.Bytes.{alike}
+use Rattle.protocol.proofs.Bytes.{alike-decides}
+use Rattle.subscribers.specs.Standing.{Standing, same-sub, same-pair}
 
 sub-equal : (a b : Sub) → a .who ≡ b .who → a .token ≡ b .token → a ≡ b
 sub-equal a b e f =

@@ -8,6 +8,7 @@ use lib.ListN.{length}
 use Rattle.std.specs.Options.{mapped}
 use Rattle.std.specs.declared.option.Option.{Option}
 use Rattle.std.specs.declared.option.Option.the-variants.{Some, None}
+use Rattle.protocol.specs.Bytes.{alike}
 use Rattle.clients.specs.Subs.{Sub}
 use Rattle.subscribers.specs.declared.joined.Joined.{Joined}
 use Rattle.subscribers.specs.declared.joined.Joined.the-variants as joined
@@ -20,13 +21,6 @@ pub record Standing : Type 0 where
 -- the most subscribers that one topic may have
 abbrev pub limit : ℕ
 limit = 100
-
--- both are the same string of bytes
-abbrev pub alike : List ℕ → List ℕ → Bool
-alike [] [] = true
-alike [] (y ∷ ys) = false
-alike (x ∷ xs) [] = false
-alike (x ∷ xs) (y ∷ ys) = eqb x y && alike xs ys
 
 -- both are the same subscriber
 abbrev pub same-sub : Sub → Sub → Bool
