@@ -41,14 +41,14 @@ fn give(value: &[u8], out: &mut [u8]) -> usize
 
 impl<'a> Memory<'a> {
     // How many keys there is room for, whatever their values are.
-    pub fn capacity(&self) -> usize
+    pub(crate) fn capacity(&self) -> usize
         ensures { λ r. ⌜ r ≡ size (now (self .entry)) / 583 ⌝ }
     {
         self.bytes.len() / ENTRY_LIMIT
     }
 
     // Whether the log has an entry of the key.
-    pub fn holds(&self, key: Key) -> bool
+    pub(crate) fn holds(&self, key: Key) -> bool
         requires { ⌜ Whole (now self) ⌝ }
         ensures { λ r. ⌜ r ≡ isSome (look (entries (contents (now (self .entry)))) key) ⌝ }
     {
@@ -57,7 +57,7 @@ impl<'a> Memory<'a> {
     }
 
     // Copies the key's value to the front of a buffer that has room for any value.
-    pub fn get(&self, key: Key, out: &mut [u8]) -> Option<usize>
+    pub(crate) fn get(&self, key: Key, out: &mut [u8]) -> Option<usize>
         requires { ⌜ Whole (now self) ⌝ ∗ ⌜ 576 ≤ length (now out) ⌝ }
         ensures answer { λ r. ⌜ r ≡ mapped length (look (entries (contents (now (self .entry)))) key) ⌝ }
         ensures buffer { λ _. ⌜ now (out .exit) ≡ laid (look (entries (contents (now (self .entry)))) key) (now (out .entry)) ⌝ }
@@ -74,7 +74,7 @@ impl<'a> Memory<'a> {
     }
 
     // The lowest handle above the given one that has properties.
-    pub fn next(&self, after: Handle) -> Option<Handle>
+    pub(crate) fn next(&self, after: Handle) -> Option<Handle>
         requires { ⌜ Whole (now self) ⌝ }
         ensures { λ r. ⌜ mapped (λ h. h .0) r ≡ next-of (meaning (entries (contents (now (self .entry))))) (after .0) ⌝ }
     {
@@ -83,7 +83,7 @@ impl<'a> Memory<'a> {
     }
 
     // Squeezes out the entries of a key and, if `dead`, the dead entries of all keys.
-    pub fn squeeze(&mut self, gone: Key, dead: bool)
+    pub(crate) fn squeeze(&mut self, gone: Key, dead: bool)
         requires { ⌜ Whole (now self) ⌝ }
         ensures len { λ _. ⌜ size (now (self .exit)) ≡ size (now (self .entry)) ⌝ }
         ensures within { λ _. ⌜ now (self .exit) .used ≤ size (now (self .exit)) ⌝ }
@@ -110,7 +110,7 @@ impl<'a> Memory<'a> {
     }
 
     // Puts an entry behind the log; only where it would not fit are entries squeezed out first.
-    pub fn put(&mut self, key: Key, value: &[u8])
+    pub(crate) fn put(&mut self, key: Key, value: &[u8])
         requires { ⌜ Whole (now self) ⌝ ∗ ⌜ length (now value) ≤ 576 ⌝ ∗ ⌜ length (encoded (sifted key true [] (entries (contents (now self))))) + 583 ≤ size (now self) ⌝ }
         ensures len { λ _. ⌜ size (now (self .exit)) ≡ size (now (self .entry)) ⌝ }
         ensures within { λ _. ⌜ now (self .exit) .used ≤ size (now (self .exit)) ⌝ }

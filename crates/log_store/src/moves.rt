@@ -5,7 +5,7 @@ ghost use Prim.Native.Nat.{_+_, _-_, _≤_};
 ghost use lib.ListN.{drop, length, take};
 
 // Moves `n` bytes from `from` up to `to`.
-pub fn move_up(bytes: &mut [u8], from: usize, to: usize, n: usize)
+pub(crate) fn move_up(bytes: &mut [u8], from: usize, to: usize, n: usize)
     requires { ⌜ from ≤ to ⌝ ∗ ⌜ to + n ≤ length (now bytes) ⌝ }
     ensures { λ _. ⌜ now (bytes .exit) ≡ take to (now (bytes .entry)) ++ (take n (drop from (now (bytes .entry))) ++ drop (to + n) (now (bytes .entry))) ⌝ }
 {
@@ -17,7 +17,7 @@ pub fn move_up(bytes: &mut [u8], from: usize, to: usize, n: usize)
 }
 
 // Moves all from `from` on to the front.
-pub fn move_to_front(bytes: &mut [u8], from: usize)
+pub(crate) fn move_to_front(bytes: &mut [u8], from: usize)
     requires { ⌜ from ≤ length (now bytes) ⌝ }
     ensures { λ _. ⌜ take (length (now (bytes .entry)) - from) (now (bytes .exit)) ≡ drop from (now (bytes .entry)) ⌝ }
 {

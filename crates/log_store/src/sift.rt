@@ -28,7 +28,7 @@ fn stays(newer: &[u8], key: Key, gone: Key, dead: bool) -> bool
 
 // Squeezes out the entries of the key `gone` and, if `dead`, the dead entries of all keys, and tells what is left in bytes.
 // What stays is gathered at the end of the bytes, from the newest entry on, and is then moved to the front.
-pub fn sift(bytes: &mut [u8], gone: Key, dead: bool) -> usize
+pub(crate) fn sift(bytes: &mut [u8], gone: Key, dead: bool) -> usize
     requires { ⌜ Log (now bytes) ⌝ }
     ensures len { λ r. ⌜ r ≤ length (now (bytes .exit)) ⌝ }
     ensures after { λ r. ⌜ take r (now (bytes .exit)) ≡ encoded (sifted gone dead [] (entries (now (bytes .entry)))) ⌝ }

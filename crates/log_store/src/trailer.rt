@@ -17,7 +17,7 @@ pub struct Trailer {
 }
 
 // The bytes of a trailer.
-pub fn write(key: Key, len: u16) -> [u8; 7]
+pub(crate) fn write(key: Key, len: u16) -> [u8; 7]
     ensures { λ r. ⌜ r ≡ trailer-of key len ⌝ }
 {
     let h = key.handle.0.to_be_bytes();
@@ -26,7 +26,7 @@ pub fn write(key: Key, len: u16) -> [u8; 7]
 }
 
 // The trailer that ends at `end`.
-pub fn read(bytes: &[u8], end: usize) -> Trailer
+pub(crate) fn read(bytes: &[u8], end: usize) -> Trailer
     requires { ⌜ 7 ≤ end ⌝ ∗ ⌜ end ≤ length (now bytes) ⌝ }
     ensures key { λ r. ⌜ r .key ≡ key-at (now (bytes .entry)) end ⌝ }
     ensures len { λ r. ⌜ r .len ≡ len-at (now (bytes .entry)) end ⌝ }

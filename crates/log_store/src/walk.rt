@@ -20,7 +20,7 @@ pub struct Span {
 }
 
 // Where the key's value lies: in the newest of its entries.
-pub fn find(bytes: &[u8], key: Key) -> Option<Span>
+pub(crate) fn find(bytes: &[u8], key: Key) -> Option<Span>
     requires { ⌜ Log (now bytes) ⌝ }
     ensures value { λ r. ⌜ mapped (λ s. take (s .len) (drop (s .at) (now (bytes .entry)))) r ≡ look (entries (now (bytes .entry))) key ⌝ }
     ensures within { λ r. ⌜ BySome r (Unit {0}) (λ s. (s .at + s .len ≤ length (now (bytes .entry))) × (s .len ≤ 576)) ⌝ }
@@ -41,7 +41,7 @@ pub fn find(bytes: &[u8], key: Key) -> Option<Span>
 }
 
 // The lowest handle above the given one that has properties. A dead entry serves as well: its key has a newer one.
-pub fn next(bytes: &[u8], after: Handle) -> Option<Handle>
+pub(crate) fn next(bytes: &[u8], after: Handle) -> Option<Handle>
     requires { ⌜ Log (now bytes) ⌝ }
     ensures { λ r. ⌜ mapped (λ h. h .0) r ≡ next-of (meaning (entries (now (bytes .entry)))) (after .0) ⌝ }
 {

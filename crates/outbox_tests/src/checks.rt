@@ -13,14 +13,14 @@ use protocol::RefusalDebug;
 use protocol::RefusalPartialEq;
 use std::test::*;
 
-pub fn subscriber(session: u32) -> Result<Subscriber<Session>, Fail> {
+pub(crate) fn subscriber(session: u32) -> Result<Subscriber<Session>, Fail> {
     Ok(Subscriber {
         client: Session(session),
         token: Token::new(b"tk")?,
     })
 }
 
-pub fn content(number: u32) -> Content {
+pub(crate) fn content(number: u32) -> Content {
     Content {
         handle: Handle(1),
         code: Code::Content,
@@ -30,7 +30,7 @@ pub fn content(number: u32) -> Content {
 }
 
 // Posts a batch for a number of equal subscribers, with a payload of equal bytes.
-pub fn post<O: Outbox<Session>>(
+pub(crate) fn post<O: Outbox<Session>>(
     outbox: &mut O,
     number: u32,
     count: usize,
@@ -43,7 +43,11 @@ pub fn post<O: Outbox<Session>>(
 }
 
 // Takes the oldest message, which is of this batch and has a payload of so many bytes; the rest of the buffer stays.
-pub fn take<O: Outbox<Session>>(outbox: &mut O, number: u32, len: usize) -> Result<(), Fail> {
+pub(crate) fn take<O: Outbox<Session>>(
+    outbox: &mut O,
+    number: u32,
+    len: usize,
+) -> Result<(), Fail> {
     let mut out = [1u8; 260];
     let Some(message) = outbox.take(&mut out)? else {
         return Err(Fail::new("nothing waits"));
@@ -59,7 +63,7 @@ pub fn take<O: Outbox<Session>>(outbox: &mut O, number: u32, len: usize) -> Resu
 }
 
 // Takes so many messages of a batch.
-pub fn take_all<O: Outbox<Session>>(
+pub(crate) fn take_all<O: Outbox<Session>>(
     outbox: &mut O,
     number: u32,
     count: usize,
@@ -72,7 +76,7 @@ pub fn take_all<O: Outbox<Session>>(
 }
 
 // A buffer of 255 bytes is refused, and stays as it is.
-pub fn refuses_short<O: Outbox<Session>>(outbox: &mut O) -> Result<(), Fail> {
+pub(crate) fn refuses_short<O: Outbox<Session>>(outbox: &mut O) -> Result<(), Fail> {
     let mut out = [1u8; 255];
     let refused = match outbox.take(&mut out) {
         Err(refusal) => refusal == Refusal::BadBatch,
@@ -86,7 +90,7 @@ pub fn refuses_short<O: Outbox<Session>>(outbox: &mut O) -> Result<(), Fail> {
 }
 
 // Nothing waits: a take refuses a short buffer all the same, and leaves a long one as it is.
-pub fn is_empty<O: Outbox<Session>>(outbox: &mut O) -> Result<(), Fail> {
+pub(crate) fn is_empty<O: Outbox<Session>>(outbox: &mut O) -> Result<(), Fail> {
     refuses_short(outbox)?;
     let mut out = [1u8; 256];
     check(outbox.take(&mut out)?.is_none())?;
@@ -97,7 +101,7 @@ pub fn is_empty<O: Outbox<Session>>(outbox: &mut O) -> Result<(), Fail> {
 }
 
 // Batches by their size: at an outbox where nothing waits the proper ones are taken, and the others are refused.
-pub fn takes_by_size<O: Outbox<Session>>(outbox: &mut O) -> Result<(), Fail> {
+pub(crate) fn takes_by_size<O: Outbox<Session>>(outbox: &mut O) -> Result<(), Fail> {
     let table = [
         (0, 0, false),
         (0, 257, false),
@@ -126,7 +130,7 @@ pub fn takes_by_size<O: Outbox<Session>>(outbox: &mut O) -> Result<(), Fail> {
 }
 
 // The subscribers of a batch are served in their order, and a later batch behind them.
-pub fn keeps_order<O: Outbox<Session>>(outbox: &mut O) -> Result<(), Fail> {
+pub(crate) fn keeps_order<O: Outbox<Session>>(outbox: &mut O) -> Result<(), Fail> {
     let to = [subscriber(3)?, subscriber(1)?, subscriber(2)?];
     check_eq(outbox.post(content(9), &to, b"ab"), Ok(()))?;
     check_eq(post(outbox, 4, 1, 0)?, Ok(()))?;
@@ -145,7 +149,7 @@ pub fn keeps_order<O: Outbox<Session>>(outbox: &mut O) -> Result<(), Fail> {
 }
 
 // A full outbox refuses a batch, after a look at its size, and has room again for as many as are taken.
-pub fn fills<O: Outbox<Session>>(outbox: &mut O) -> Result<(), Fail> {
+pub(crate) fn fills<O: Outbox<Session>>(outbox: &mut O) -> Result<(), Fail> {
     check_eq(post(outbox, 1, 100, 1)?, Ok(()))?;
     check_eq(outbox.has_room(1, 0), false)?;
     check_eq(post(outbox, 2, 1, 0)?, Err(Refusal::OutboxFull))?;
@@ -162,7 +166,7 @@ pub fn fills<O: Outbox<Session>>(outbox: &mut O) -> Result<(), Fail> {
 }
 
 // Batches of sixty, one behind the other, go over the end of a hundred places.
-pub fn goes_round<O: Outbox<Session>>(outbox: &mut O) -> Result<(), Fail> {
+pub(crate) fn goes_round<O: Outbox<Session>>(outbox: &mut O) -> Result<(), Fail> {
     for number in [1, 2, 3, 4, 5] {
         check_eq(post(outbox, number, 60, 2)?, Ok(()))?;
         check_eq(outbox.has_room(40, 256), true)?;
@@ -173,7 +177,7 @@ pub fn goes_round<O: Outbox<Session>>(outbox: &mut O) -> Result<(), Fail> {
 }
 
 // What any outbox over a hundred places does, where at least two contents fit at a time.
-pub fn behaves<O: Outbox<Session>>(outbox: &mut O) -> Result<(), Fail> {
+pub(crate) fn behaves<O: Outbox<Session>>(outbox: &mut O) -> Result<(), Fail> {
     is_empty(outbox)?;
     takes_by_size(outbox)?;
     keeps_order(outbox)?;

@@ -38,7 +38,7 @@ fn read_at(contents: &[Place], at: usize, out: &mut [u8]) -> (Content, usize)
 }
 
 // Marks every place as free.
-pub fn free_all(contents: &mut [Place])
+pub(crate) fn free_all(contents: &mut [Place])
     ensures { λ _. ⌜ ((p : ℕ) → users-at (now (contents .exit)) p ≡ 0) ⌝ }
 {
     for place in contents.iter_mut() {
@@ -48,14 +48,14 @@ pub fn free_all(contents: &mut [Place])
 
 impl<'a> Places<'a> {
     // The first place that no entry names.
-    pub fn free(&self) -> Option<usize>
+    pub(crate) fn free(&self) -> Option<usize>
         ensures { λ r. ⌜ BySome r ((p : ℕ) → p < length (now (self .entry) .contents .now) → users-at (now (self .entry) .contents .now) p ≡ 0 → ⊥) (λ p. (p < length (now (self .entry) .contents .now)) × (users-at (now (self .entry) .contents .now) p ≡ 0)) ⌝ }
     {
         find_free(&*self.contents)
     }
 
     // Writes a content and its payload to a place.
-    pub fn write(&mut self, at: usize, content: Content, payload: &[u8])
+    pub(crate) fn write(&mut self, at: usize, content: Content, payload: &[u8])
         requires { ⌜ at < length (now self .contents .now) ⌝ ∗ ⌜ length (now payload) ≤ 256 ⌝ }
         ensures bodies { λ _. ⌜ bodies (now (self .exit) .contents .now) ≡ set (bodies (now (self .entry) .contents .now)) at (record { content = content; payload = now (payload .entry) }) ⌝ }
         ensures users { λ _. ⌜ counts (now (self .exit) .contents .now) ≡ counts (now (self .entry) .contents .now) ⌝ }
@@ -66,7 +66,7 @@ impl<'a> Places<'a> {
     }
 
     // Notes that one entry more names the place.
-    pub fn claim(&mut self, at: usize)
+    pub(crate) fn claim(&mut self, at: usize)
         requires { ⌜ at < length (now self .contents .now) ⌝ ∗ ⌜ users-at (now self .contents .now) at + 1 < 2 ^ 64 ⌝ }
         ensures bodies { λ _. ⌜ bodies (now (self .exit) .contents .now) ≡ bodies (now (self .entry) .contents .now) ⌝ }
         ensures users { λ _. ⌜ counts (now (self .exit) .contents .now) ≡ set (counts (now (self .entry) .contents .now)) at (users-at (now (self .entry) .contents .now) at + 1) ⌝ }
@@ -76,7 +76,7 @@ impl<'a> Places<'a> {
     }
 
     // Notes that one entry less names the place.
-    pub fn release(&mut self, at: usize)
+    pub(crate) fn release(&mut self, at: usize)
         requires { ⌜ at < length (now self .contents .now) ⌝ ∗ ⌜ 0 < users-at (now self .contents .now) at ⌝ }
         ensures bodies { λ _. ⌜ bodies (now (self .exit) .contents .now) ≡ bodies (now (self .entry) .contents .now) ⌝ }
         ensures users { λ _. ⌜ counts (now (self .exit) .contents .now) ≡ set (counts (now (self .entry) .contents .now)) at (users-at (now (self .entry) .contents .now) at - 1) ⌝ }
@@ -86,7 +86,7 @@ impl<'a> Places<'a> {
     }
 
     // Writes the payload in a place to the front of the buffer, and tells its content and length.
-    pub fn read(&self, at: usize, out: &mut [u8]) -> (Content, usize)
+    pub(crate) fn read(&self, at: usize, out: &mut [u8]) -> (Content, usize)
         requires { ⌜ at < length (now self .contents .now) ⌝ ∗ ⌜ 256 ≤ length (now out) ⌝ }
         ensures content { λ r. ⌜ r .0 ≡ getD (bodies (now (self .entry) .contents .now)) at blank .content ⌝ }
         ensures len { λ r. ⌜ r .1 ≡ length (getD (bodies (now (self .entry) .contents .now)) at blank .payload) ⌝ }

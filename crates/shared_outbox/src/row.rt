@@ -19,7 +19,7 @@ fn read_at<C: Client>(entries: &[Entry<C>], at: usize) -> Entry<C>
 
 impl<'a, C: Client> Row<'a, C> {
     // Writes an entry.
-    pub fn write(&mut self, at: usize, entry: &Entry<C>)
+    pub(crate) fn write(&mut self, at: usize, entry: &Entry<C>)
         requires { ⌜ at < length (now self .entries .now) ⌝ }
         ensures { λ _. ⌜ now (self .exit) .entries .now ≡ set (now (self .entry) .entries .now) at (now (entry .entry)) ⌝ }
     {
@@ -27,7 +27,7 @@ impl<'a, C: Client> Row<'a, C> {
     }
 
     // Reads an entry.
-    pub fn read(&self, at: usize) -> Entry<C>
+    pub(crate) fn read(&self, at: usize) -> Entry<C>
         requires { ⌜ at < length (now self .entries .now) ⌝ }
         ensures { λ r. ⌜ r ≡ getD (now (self .entry) .entries .now) at r ⌝ }
     {

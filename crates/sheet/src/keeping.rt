@@ -32,7 +32,7 @@ fn keep_at<'a, S: Store>(
 }
 
 // Stores the topic that the map makes under the handle.
-pub fn keep<S: Store>(store: &mut S, handle: Handle, map: &[u8]) -> Result<(), Refusal>
+pub(crate) fn keep<S: Store>(store: &mut S, handle: Handle, map: &[u8]) -> Result<(), Refusal>
     ensures answer { λ r. ⌜ r ≡ answer-to (admitted (data-address (handle .0)) (now (map .entry))) (S·Store .held (now (store .entry))) (S·Store .capacity (now (store .entry))) (properties-key (handle .0)) ⌝ }
     ensures after { λ _. ⌜ S·Store .held (now (store .exit)) ≡ held-after (admitted (data-address (handle .0)) (now (map .entry))) (S·Store .held (now (store .entry))) (S·Store .capacity (now (store .entry))) (properties-key (handle .0)) ⌝ }
 {

@@ -86,7 +86,7 @@ fn print_held<S: Store>(rt: &LibcRuntime, store: &S) -> Result<u32, AnyError> {
 }
 
 // Reads the whole sheet into an empty store.
-pub fn run<S: Store>(rt: &LibcRuntime, text: &str, store: &mut S) -> Result<(), AnyError> {
+pub(crate) fn run<S: Store>(rt: &LibcRuntime, text: &str, store: &mut S) -> Result<(), AnyError> {
     let mut tally = Tally {
         stored: 0,
         refused: 0,

@@ -61,7 +61,7 @@ fn take(options: &mut Options, wanted: Wanted, word: String) -> Result<Wanted, A
 }
 
 // The options that the arguments give, the program's own name first.
-pub fn parse(args: Args) -> Result<Options, AnyError> {
+pub(crate) fn parse(args: Args) -> Result<Options, AnyError> {
     let mut options = Options {
         store: Kind::Table,
         path: None,

@@ -29,7 +29,7 @@ fn refusal_words(refusal: Refusal) -> &'static str {
 }
 
 // A refusal: its number, its code and fault where it has them, and words.
-pub fn refusal_text(heap: Global, refusal: Refusal) -> Result<String, AllocError> {
+pub(crate) fn refusal_text(heap: Global, refusal: Refusal) -> Result<String, AllocError> {
     let number = refusal.number();
     let words = refusal_words(refusal);
     let mut text = format!(heap, "refused {number}")?;
@@ -89,7 +89,7 @@ fn push_number(
 }
 
 // The properties that are given, by rising key.
-pub fn properties_text(heap: Global, p: &Properties<'_>) -> Result<String, AllocError> {
+pub(crate) fn properties_text(heap: Global, p: &Properties<'_>) -> Result<String, AllocError> {
     let mut text = String::new(heap);
     push_text(heap, &mut text, "topic-name", p.name)?;
     push_text(heap, &mut text, "topic-data", p.data_address)?;

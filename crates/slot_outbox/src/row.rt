@@ -32,7 +32,13 @@ fn read_at<C: Client>(slots: &[Slot<C>], at: usize, out: &mut [u8]) -> Message<C
 
 impl<'a, C: Client> Row<'a, C> {
     // Writes a message to a slot.
-    pub fn write(&mut self, at: usize, subscriber: Subscriber<C>, content: Content, payload: &[u8])
+    pub(crate) fn write(
+        &mut self,
+        at: usize,
+        subscriber: Subscriber<C>,
+        content: Content,
+        payload: &[u8],
+    )
         requires { ⌜ at < length (now self .slots .now) ⌝ ∗ ⌜ length (now payload) ≤ 256 ⌝ }
         ensures { λ _. ⌜ ((s : Slot C) × (now (self .exit) .slots .now ≡ set (now (self .entry) .slots .now) at s) × (note-in (C·Client .identity) s ≡ record { to = sub-of (C·Client .identity) subscriber; content = content; payload = now (payload .entry) })) ⌝ }
     {
@@ -43,7 +49,7 @@ impl<'a, C: Client> Row<'a, C> {
     }
 
     // Reads the message in a slot, and writes its payload to the front of the buffer.
-    pub fn read(&self, at: usize, out: &mut [u8]) -> Message<C>
+    pub(crate) fn read(&self, at: usize, out: &mut [u8]) -> Message<C>
         requires { ⌜ at < length (now self .slots .now) ⌝ ∗ ⌜ 256 ≤ length (now out) ⌝ }
         ensures { λ r. ⌜ ((s : Slot C) × (s ≡ getD (now (self .entry) .slots .now) at s) × Gives (C·Client .identity) (note-in (C·Client .identity) s) r (now (out .entry)) (now (out .exit))) ⌝ }
     {

@@ -10,7 +10,7 @@ use clients::Subscriber;
 use protocol::Handle;
 
 // The first place of the pair.
-pub fn find_in<C: Client>(
+pub(crate) fn find_in<C: Client>(
     pairs: &[Subscription<C>],
     handle: Handle,
     subscriber: &Subscriber<C>,
@@ -26,7 +26,7 @@ pub fn find_in<C: Client>(
 }
 
 // How many of the pairs are of the handle.
-pub fn count_in<C: Copy>(pairs: &[Subscription<C>], handle: Handle) -> usize
+pub(crate) fn count_in<C: Copy>(pairs: &[Subscription<C>], handle: Handle) -> usize
     ensures { λ r. ⌜ r ≡ length (subscribers-at (handle .0) (now (pairs .entry))) ⌝ }
 {
     let mut count = 0;
@@ -39,7 +39,7 @@ pub fn count_in<C: Copy>(pairs: &[Subscription<C>], handle: Handle) -> usize
 }
 
 // Copies the handle's subscribers to the front of the work list, and tells how many they are.
-pub fn collect_in<C: Copy>(
+pub(crate) fn collect_in<C: Copy>(
     pairs: &[Subscription<C>],
     handle: Handle,
     work: &mut [Subscriber<C>],
