@@ -1,10 +1,11 @@
 # Two commands for a fresh machine that has the kit.
 .PHONY: run test
 
-# The installer's sheet of a household, read, checked and stored.
+# Proves and builds the program `sheet`, and reads a household's sheet into a store.
 run:
-	rt run sheet examples/household.sheet
+	rt check sheet
+	target/bin/sheet crates/sheet/data/household.sheet
 
 # The gate: every proof, every must-fail edit, every program and test.
 test:
-	.ci/run
+	bash .ci/run

@@ -1,4 +1,4 @@
--- Laws of numbers as bytes, most significant byte first.
+-- Laws of strings of bytes and of numbers as bytes, most significant byte first.
 use Prim.Native.Nat.{ℕ, zero, suc, _+_, _-_, _*_, _/_, _%_, _^_, _<_, _≤_}
 use mathlib.Core.Path.{_≡_, refl, sym, ap, _∙_}
 use mathlib.Core.List.{List, [], _∷_, _++_}
@@ -7,8 +7,10 @@ use native.Mathlib.Omega.{arith}
 use lib.Arith.{mod-mul}
 use lib.ListN.{length, getD, drop, replicate, length-append, length-drop}
 use lib.Pow.{pow-add}
+use Rattle.std.specs.Orderings.{Decides}
 use Rattle.std.proofs.shelf.Lists.{at-drop-more, at-drop-all}
-use Rattle.protocol.specs.Bytes.{be-bytes, be-number, AllBytes}
+use Rattle.std.proofs.shelf.Ways.{decides-and, decides-eqb, decides-like}
+use Rattle.protocol.specs.Bytes.{be-bytes, be-number, AllBytes, alike}
 
 -- as many bytes as asked for
 pub length-be : (w n : ℕ) → length (be-bytes w n) ≡ w
@@ -135,3 +137,12 @@ be8 n = ap (λ k. (n / 72057594037927936 % 256) ∷ (n / 281474976710656 % 256) 
 
 pub be16 : (n : ℕ) → (n / 1329227995784915872903807060280344576 % 256) ∷ (n / 5192296858534827628530496329220096 % 256) ∷ (n / 20282409603651670423947251286016 % 256) ∷ (n / 79228162514264337593543950336 % 256) ∷ (n / 309485009821345068724781056 % 256) ∷ (n / 1208925819614629174706176 % 256) ∷ (n / 4722366482869645213696 % 256) ∷ (n / 18446744073709551616 % 256) ∷ (n / 72057594037927936 % 256) ∷ (n / 281474976710656 % 256) ∷ (n / 1099511627776 % 256) ∷ (n / 4294967296 % 256) ∷ (n / 16777216 % 256) ∷ (n / 65536 % 256) ∷ (n / 256 % 256) ∷ (n % 256) ∷ [] ≡ be-bytes 16 n
 be16 n = ap (λ k. (n / 1329227995784915872903807060280344576 % 256) ∷ (n / 5192296858534827628530496329220096 % 256) ∷ (n / 20282409603651670423947251286016 % 256) ∷ (n / 79228162514264337593543950336 % 256) ∷ (n / 309485009821345068724781056 % 256) ∷ (n / 1208925819614629174706176 % 256) ∷ (n / 4722366482869645213696 % 256) ∷ (n / 18446744073709551616 % 256) ∷ (n / 72057594037927936 % 256) ∷ (n / 281474976710656 % 256) ∷ (n / 1099511627776 % 256) ∷ (n / 4294967296 % 256) ∷ (n / 16777216 % 256) ∷ (n / 65536 % 256) ∷ (n / 256 % 256) ∷ (k % 256) ∷ []) (sym (div-one n))
+
+-- the test of equality decides it
+pub alike-decides : (xs ys : List ℕ) → Decides (alike xs ys) (xs ≡ ys)
+alike-decides [] [] = ((λ _. refl), (λ _. refl))
+alike-decides [] (y ∷ ys) = ((λ e. cc), (λ e. cc))
+alike-decides (x ∷ xs) [] = ((λ e. cc), (λ e. cc))
+alike-decides (x ∷ xs) (y ∷ ys) =
+    decides-like (alike (x ∷ xs) (y ∷ ys)) (λ e. ap (λ z. z ∷ xs) (e .0) ∙ ap (λ zs. y ∷ zs) (e .1)) (λ e. ((cc), (cc)))
+    (decides-and _ _ (decides-eqb x y) (alike-decides xs ys))

@@ -1,6 +1,6 @@
 // The trait of stores: every method is an equality on the map that the store means.
 ghost use Prim.Native.Nat.{ℕ, _≤_};
-ghost use mathlib.Core.Bool.{Bool, cond};
+ghost use mathlib.Core.Bool.{cond};
 ghost use mathlib.Core.List.{List};
 ghost use mathlib.Core.Path.{_≡_};
 ghost use lib.ListN.{length};
@@ -10,6 +10,9 @@ ghost use Rattle.store.specs.Held.{Entry, Sound, full, get-answer, get-buffer,
 use crate::key::Key;
 use protocol::Handle;
 use protocol::Refusal;
+
+// The largest value that a store keeps, in bytes; a get buffer has at least as many.
+pub const VALUE_LIMIT: usize = 576;
 
 pub trait Store {
     // the map, as entries in rising order of their keys

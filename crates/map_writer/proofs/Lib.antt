@@ -1,0 +1,5 @@
+pub mod Buffers
+pub mod Heads
+pub mod Lengths
+pub mod Reading
+pub mod Largest

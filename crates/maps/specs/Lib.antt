@@ -1,0 +1,4 @@
+pub mod Heads
+pub mod Laws
+pub mod Maps
+pub mod Reading

@@ -1,0 +1,4 @@
+pub mod Choice
+pub mod Held
+pub mod Pairs
+pub mod Standing
