@@ -1,4 +1,5 @@
 // A log store lent for the time of some work.
+ghost use mathlib.Core.Bool.{false};
 ghost use mathlib.Core.List.{[]};
 ghost use mathlib.Core.Path.{_≡_};
 ghost use Prim.Native.Nat.{_/_};
@@ -16,6 +17,7 @@ use store::Work;
 pub fn with_log<W: Work + Drop>(bytes: &mut [u8], work: W) -> Result<W::Output, Refusal>
     ensures test { λ r. ⌜ isOk r ≡ leb 1166 (length (now (bytes .entry))) ⌝ }
     ensures answer { λ r. ⌜ Cases r (λ o. W·Work .done work [] (length (now (bytes .entry)) / 583) o) (λ e. e ≡ ShortMemory) ⌝ }
+    ensures same { λ r. ⌜ (isOk r ≡ false → now (bytes .exit) ≡ now (bytes .entry)) ⌝ }
 {
     if bytes.len() < 2 * ENTRY_LIMIT {
         return Err(Refusal::ShortMemory);

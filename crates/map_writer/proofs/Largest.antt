@@ -15,7 +15,7 @@ use Rattle.std.proofs.shelf.Ways.{tells}
 use Rattle.maps.specs.Heads.{head-bytes}
 use Rattle.maps.specs.declared.properties.Key.{Key}
 use Rattle.maps.specs.declared.properties.Key.the-variants.{Name, DataAddress, ResourceType, ContentFormat, TopicType, Expiration, MaxSubscribers, ObserverCheck}
-use Rattle.maps.specs.Maps.{Props, text-entry, number-entry, date-entry, absent-or, written}
+use Rattle.maps.specs.Maps.{Props, text-entry, number-entry, date-entry, absent-or, in-range, written}
 use Rattle.maps.specs.Laws.{Topical, Largest}
 use Rattle.map_writer.proofs.Lengths.{length-text-of, length-number-of, length-date-of, length-written}
 
@@ -71,22 +71,36 @@ check-le (Some n) h =
     let l = leb-true n 4294967295 h in
     omega (arith, length-number-of ObserverCheck n, head-le-5 0 n (omega arith))
 
-bound : (p : Props) → Topical p → length (written p) ≤ 574
-bound p t =
+-- each range of properties that are in range
+pub record Ranges (p : Props) : Type 0 where
+  pub name : absent-or (λ t. ltb 0 (length t) && leb (length t) 256) (p .name) ≡ true
+  pub format : absent-or (λ n. leb n 65535) (p .content-format) ≡ true
+  pub topic : absent-or (λ t. leb (length t) 256) (p .topic-type) ≡ true
+  pub date : absent-or (λ n. leb n 4294967295) (p .expiration) ≡ true
+  pub most : absent-or (λ n. leb n 100) (p .max-subscribers) ≡ true
+  pub check : absent-or (λ n. leb n 4294967295) (p .observer-check) ≡ true
+
+pub ranges : (p : Props) → in-range p ≡ true → Ranges p
+ranges p r =
     let check = absent-or (λ n. leb n 4294967295) (p .observer-check) in
     let most = absent-or (λ n. leb n 100) (p .max-subscribers) in
     let date = absent-or (λ n. leb n 4294967295) (p .expiration) in
     let topic = absent-or (λ t. leb (length t) 256) (p .topic-type) in
     let format = absent-or (λ n. leb n 65535) (p .content-format) in
     let name = absent-or (λ t. ltb 0 (length t) && leb (length t) 256) (p .name) in
-    let a = and-parts name (format && (topic && (date && (most && check)))) (t .ranged) in
+    let a = and-parts name (format && (topic && (date && (most && check)))) r in
     let b = and-parts format (topic && (date && (most && check))) (a .1) in
     let c = and-parts topic (date && (most && check)) (b .1) in
     let d = and-parts date (most && check) (c .1) in
     let e = and-parts most check (d .1) in
+    record { name = a .0; format = b .0; topic = c .0; date = d .0; most = e .0; check = e .1 }
+
+bound : (p : Props) → Topical p → length (written p) ≤ 574
+bound p t =
+    let r = ranges p (t .ranged) in
     let address : length (text-entry DataAddress (p .data-address)) ≤ 2 + 17 = fixed-le DataAddress 17 (p .data-address) (omega arith) (t .data-address) in
     let resource : length (text-entry ResourceType (p .resource-type)) ≤ 2 + 12 = fixed-le ResourceType 12 (p .resource-type) (omega arith) (t .resource-type) in
-    omega (arith, length-written p, name-le Name (p .name) (a .0), format-le (p .content-format) (b .0), text-le TopicType (p .topic-type) (c .0), date-le (p .expiration) (d .0), most-le (p .max-subscribers) (e .0), check-le (p .observer-check) (e .1))
+    omega (arith, length-written p, name-le Name (p .name) (r .name), format-le (p .content-format) (r .format), text-le TopicType (p .topic-type) (r .topic), date-le (p .expiration) (r .date), most-le (p .max-subscribers) (r .most), check-le (p .observer-check) (r .check))
 
 module _ (name address resource topic : List ℕ) (n : length name ≡ 256) (a : length address ≡ 17) (r : length resource ≡ 12) (t : length topic ≡ 256) where
   -- every property given, as large as its range allows

@@ -112,7 +112,7 @@ has p Expiration = isSome (p .expiration)
 has p MaxSubscribers = isSome (p .max-subscribers)
 has p ObserverCheck = isSome (p .observer-check)
 
--- one property given, the others as they were
+-- the name given, the others as they were
 abbrev pub with-name : Props → List ℕ → Props
 with-name p v = record {
   name = Some v;
@@ -125,6 +125,7 @@ with-name p v = record {
   observer-check = p .observer-check;
 }
 
+-- the data address given, the others as they were
 abbrev pub with-data-address : Props → List ℕ → Props
 with-data-address p v = record {
   name = p .name;
@@ -137,6 +138,7 @@ with-data-address p v = record {
   observer-check = p .observer-check;
 }
 
+-- the resource type given, the others as they were
 abbrev pub with-resource-type : Props → List ℕ → Props
 with-resource-type p v = record {
   name = p .name;
@@ -149,6 +151,7 @@ with-resource-type p v = record {
   observer-check = p .observer-check;
 }
 
+-- the content format given, the others as they were
 abbrev pub with-content-format : Props → ℕ → Props
 with-content-format p v = record {
   name = p .name;
@@ -161,6 +164,7 @@ with-content-format p v = record {
   observer-check = p .observer-check;
 }
 
+-- the topic type given, the others as they were
 abbrev pub with-topic-type : Props → List ℕ → Props
 with-topic-type p v = record {
   name = p .name;
@@ -173,6 +177,7 @@ with-topic-type p v = record {
   observer-check = p .observer-check;
 }
 
+-- the expiration date given, the others as they were
 abbrev pub with-expiration : Props → ℕ → Props
 with-expiration p v = record {
   name = p .name;
@@ -185,6 +190,7 @@ with-expiration p v = record {
   observer-check = p .observer-check;
 }
 
+-- the most subscribers given, the others as they were
 abbrev pub with-max-subscribers : Props → ℕ → Props
 with-max-subscribers p v = record {
   name = p .name;
@@ -197,6 +203,7 @@ with-max-subscribers p v = record {
   observer-check = p .observer-check;
 }
 
+-- the observer check given, the others as they were
 abbrev pub with-observer-check : Props → ℕ → Props
 with-observer-check p v = record {
   name = p .name;
@@ -239,6 +246,7 @@ abbrev pub alone : Props → List ℕ → Result Props Fault
 alone p [] = Ok p
 alone p (b ∷ bs) = Err Trailing
 
+-- what was read up to the end of the map, and that nothing follows it
 abbrev pub whole : Result (Got Props) Fault → Result Props Fault
 whole (Ok g) = alone (g .item) (g .rest)
 whole (Err e) = Err e

@@ -73,11 +73,12 @@ full es n k = proper k && not (isSome (look es k)) && leb n (length es)
 abbrev pub get-answer : List Entry → Key → ℕ → Result (Option ℕ) Refusal
 get-answer es k room = cond (proper k && leb value-limit room) (Ok (mapped length (look es k))) (Err BadStoreRequest)
 
--- a buffer after a get: the value in front where there is one, and the rest as it was
+-- a value at the front of a buffer, where there is one, and the rest as it was
 abbrev pub laid : Option (List ℕ) → List ℕ → List ℕ
 laid None buf = buf
 laid (Some v) buf = v ++ drop (length v) buf
 
+-- a buffer after a get that may have been refused
 abbrev pub get-buffer : List Entry → Key → List ℕ → List ℕ
 get-buffer es k buf = cond (proper k && leb value-limit (length buf)) (laid (look es k) buf) buf
 

@@ -11,6 +11,7 @@ use Rattle.std.specs.Options.{Cases, isSome, valueOr}
 use Rattle.std.specs.declared.option.Option.{Option}
 use Rattle.std.specs.declared.option.Option.the-variants.{Some, None}
 use Rattle.protocol.proofs.Bytes.{alike-decides}
+use Rattle.map_writer.proofs.Largest.{ranges}
 use Rattle.maps.specs.Laws.{Topical}
 use Rattle.maps.specs.Maps.{Props, absent-or, in-range, with-defaults, with-data-address}
 use Rattle.topics.specs.Admission.{fit, gives}
@@ -26,24 +27,14 @@ sized t None h = tt
 sized t (Some s) h = ap length (alike-decides s t .0 h)
 
 pub topical : (p : Props) (address : List ℕ) → length address ≡ 17 → in-range p ≡ true → fit p ≡ true → Topical (with-defaults (with-data-address p address))
-topical p address l r f =
-    let check = absent-or (λ n. leb n 4294967295) (p .observer-check) in
-    let most = absent-or (λ n. leb n 100) (p .max-subscribers) in
-    let date = absent-or (λ n. leb n 4294967295) (p .expiration) in
-    let topic = absent-or (λ t. leb (length t) 256) (p .topic-type) in
-    let format = absent-or (λ n. leb n 65535) (p .content-format) in
-    let name = absent-or (λ t. ltb 0 (length t) && leb (length t) 256) (p .name) in
-    let a = and-parts name (format && (topic && (date && (most && check)))) r in
-    let b = and-parts format (topic && (date && (most && check))) (a .1) in
-    let c = and-parts topic (date && (most && check)) (b .1) in
-    let d = and-parts date (most && check) (c .1) in
-    let e = and-parts most check (d .1) in
+topical p address l ranged f =
+    let r = ranges p ranged in
     let g = and-parts (isSome (p .name)) (gives (codes "core.ps.data") (p .resource-type) && not (isSome (p .data-address))) f in
     let k = and-parts (gives (codes "core.ps.data") (p .resource-type)) (not (isSome (p .data-address))) (g .1) in
     record {
       ranged =
-          and-from _ _ (a .0) (and-from _ _ (b .0) (and-from _ _ (c .0) (and-from _ _ (d .0)
-          (and-from _ _ (defaulted (λ n. leb n 100) (p .max-subscribers) 100 refl (e .0)) (defaulted (λ n. leb n 4294967295) (p .observer-check) 86400 refl (e .1))))));
+          and-from _ _ (r .name) (and-from _ _ (r .format) (and-from _ _ (r .topic) (and-from _ _ (r .date)
+          (and-from _ _ (defaulted (λ n. leb n 100) (p .max-subscribers) 100 refl (r .most)) (defaulted (λ n. leb n 4294967295) (p .observer-check) 86400 refl (r .check))))));
       data-address = l;
       resource-type = sized (codes "core.ps.data") (p .resource-type) (k .0);
     }
