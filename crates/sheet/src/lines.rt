@@ -2,7 +2,7 @@
 use crate::keeping::keep;
 use crate::text::{properties_text, refusal_text};
 use anyhow::anyhow;
-use hex::{decode, encode};
+use hexadecimal::{decode, encode};
 use maps::read;
 use protocol::Handle;
 use store::{Key, Store};

@@ -43,7 +43,9 @@ fn print_file(rt: &HostRuntime, name: &str) -> anyhow::Result<()> {
     println!(rt; "{name}")?;
     for line in text.as_str().lines() {
         if let Some((hex, _)) = line.split_once('\t') {
-            let example = hex::decode(rt.alloc(), hex.as_bytes())?.context("not hexadecimal text")?;
+            let example = hexadecimal::decode(rt.alloc(), hex.as_bytes())?.context(
+                "not hexadecimal text",
+            )?;
             print!(rt; "{hex} | ")?;
             print_example(rt, example.as_slice())?;
         }

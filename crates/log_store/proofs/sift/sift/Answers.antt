@@ -14,28 +14,28 @@ read-trailer-requires c =
     let n = sift_next c.args.bytes.now c.args.gone c.args.dead c.loop-end.bytes c.loop-end.end c.loop-end.top c.loop-end.invariant c.loop-end-test.true in
     (omega (arith, (room _ _ n).0), omega arith)
 
-pub overflow-add-size : goal.overflow-add-size
-overflow-add-size c =
+pub overflow_add-size : goal.overflow_add-size
+overflow_add-size c =
     let n = sift_next c.args.bytes.now c.args.gone c.args.dead c.loop-end.bytes c.loop-end.end c.loop-end.top c.loop-end.invariant c.loop-end-test.true in
     let r = (room _ _ n).1 in
     let e = c.read-trailer.ensures.len in
     search rules
 
-pub overflow-sub-from : goal.overflow-sub-from
-overflow-sub-from c =
+pub overflow_sub-from : goal.overflow_sub-from
+overflow_sub-from c =
     let n = sift_next c.args.bytes.now c.args.gone c.args.dead c.loop-end.bytes c.loop-end.end c.loop-end.top c.loop-end.invariant c.loop-end-test.true in
     omega (arith, (room _ _ n).0, c.read-trailer.ensures.len)
 
 pub stays-requires : goal.stays-requires
 stays-requires c = subst Log (sym (take_rest c.loop-end.bytes c.loop-end.top)) c.loop-end.invariant.back
 
-pub overflow-sub-top : goal.overflow-sub-top
-overflow-sub-top c =
+pub overflow_sub-top : goal.overflow_sub-top
+overflow_sub-top c =
     let n = sift_next c.args.bytes.now c.args.gone c.args.dead c.loop-end.bytes c.loop-end.end c.loop-end.top c.loop-end.invariant c.loop-end-test.true in
     omega (arith, (room _ _ n).0, c.read-trailer.ensures.len, c.loop-end.invariant.below)
 
-pub move-up-requires : goal.move-up-requires
-move-up-requires c =
+pub move_up-requires : goal.move_up-requires
+move_up-requires c =
     let n = sift_next c.args.bytes.now c.args.gone c.args.dead c.loop-end.bytes c.loop-end.end c.loop-end.top c.loop-end.invariant c.loop-end-test.true in
     let r = (room _ _ n).0 in
     let e = c.read-trailer.ensures.len in
@@ -51,8 +51,8 @@ loop-end-preserved-then-stays c =
     = ap (λ bs. stays c.args.gone c.args.dead (entries bs) (key_at c.loop-end.bytes c.loop-end.end)) (sym (take_rest c.loop-end.bytes c.loop-end.top))
     ∙ ap (stays c.args.gone c.args.dead (entries (take (length c.loop-end.bytes - c.loop-end.top) (drop c.loop-end.top c.loop-end.bytes)))) (sym c.read-trailer.ensures.key)
     ∙ sym c.stays.ensures ∙ c.if-stays.true in
-    sift_keep c.args.bytes.now c.args.gone c.args.dead c.loop-end.bytes c.move-up.new.bytes c.loop-end.end c.loop-end.top
-    (c.loop-end.end - (c.read-trailer.result.len + 7)) (c.read-trailer.result.len + 7) c.loop-end.invariant n refl (omega arith) h c.move-up.ensures
+    sift_keep c.args.bytes.now c.args.gone c.args.dead c.loop-end.bytes c.move_up.new.bytes c.loop-end.end c.loop-end.top
+    (c.loop-end.end - (c.read-trailer.result.len + 7)) (c.read-trailer.result.len + 7) c.loop-end.invariant n refl (omega arith) h c.move_up.ensures
 
 pub loop-end-preserved : goal.loop-end-preserved
 loop-end-preserved c =
@@ -64,16 +64,16 @@ loop-end-preserved c =
     ∙ sym c.stays.ensures ∙ c.if-stays.false in
     sift_drop c.args.bytes.now c.args.gone c.args.dead c.loop-end.bytes c.loop-end.end c.loop-end.top (c.loop-end.end - (c.read-trailer.result.len + 7)) c.loop-end.invariant n (omega arith) h
 
-pub overflow-sub-result : goal.overflow-sub-result
-overflow-sub-result c = omega (arith, c.loop-end.invariant.within, c.loop-end.invariant.long)
+pub overflow_sub-result : goal.overflow_sub-result
+overflow_sub-result c = omega (arith, c.loop-end.invariant.within, c.loop-end.invariant.long)
 
 pub shape-of-bytes : goal.shape-of-bytes
-shape-of-bytes c = c.move-to-front.auto.bytes ∙ c.loop-end.invariant.long
+shape-of-bytes c = c.move_to_front.auto.bytes ∙ c.loop-end.invariant.long
 
 pub returns : goal.returns
 returns c =
     record {
-      len = omega (arith, c.move-to-front.auto.bytes, c.loop-end.invariant.long);
-      after = ap (λ k. take (k - c.loop-end.top) c.move-to-front.new.bytes) (sym c.loop-end.invariant.long) ∙ c.move-to-front.ensures
+      len = omega (arith, c.move_to_front.auto.bytes, c.loop-end.invariant.long);
+      after = ap (λ k. take (k - c.loop-end.top) c.move_to_front.new.bytes) (sym c.loop-end.invariant.long) ∙ c.move_to_front.ensures
           ∙ sift_end c.args.bytes.now c.args.gone c.args.dead c.loop-end.bytes c.loop-end.end c.loop-end.top c.loop-end-test.false c.loop-end.invariant;
     }

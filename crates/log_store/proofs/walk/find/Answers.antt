@@ -17,13 +17,13 @@ read-trailer-requires c =
     let n = newest c.args.bytes.now c.loop-end.end c.loop-end.invariant.0 (omega arith) c.loop-end.invariant.1 in
     (omega (arith, (room c.args.bytes.now c.loop-end.end n).0), c.loop-end.invariant.0)
 
-pub overflow-sub-at : goal.overflow-sub-at
-overflow-sub-at c =
+pub overflow_sub-at : goal.overflow_sub-at
+overflow_sub-at c =
     let n = newest c.args.bytes.now c.loop-end.end c.loop-end.invariant.0 (omega arith) c.loop-end.invariant.1 in
     omega (arith, (room c.args.bytes.now c.loop-end.end n).0)
 
-pub overflow-sub-at-in-loop-end : goal.overflow-sub-at-in-loop-end
-overflow-sub-at-in-loop-end c =
+pub overflow_sub-at-in-loop-end : goal.overflow_sub-at-in-loop-end
+overflow_sub-at-in-loop-end c =
     let n = newest c.args.bytes.now c.loop-end.end c.loop-end.invariant.0 (omega arith) c.loop-end.invariant.1 in
     omega (arith, (room c.args.bytes.now c.loop-end.end n).0, c.read-trailer.ensures.len)
 

@@ -20,13 +20,13 @@ read-trailer-requires c =
     let n = newest c.args.bytes.now c.loop-end.end c.loop-end.invariant.0 (omega arith) c.loop-end.invariant.1 in
     (omega (arith, (room c.args.bytes.now c.loop-end.end n).0), c.loop-end.invariant.0)
 
-pub overflow-sub-end : goal.overflow-sub-end
-overflow-sub-end c =
+pub overflow_sub-end : goal.overflow_sub-end
+overflow_sub-end c =
     let n = newest c.args.bytes.now c.loop-end.end c.loop-end.invariant.0 (omega arith) c.loop-end.invariant.1 in
     omega (arith, (room c.args.bytes.now c.loop-end.end n).0)
 
-pub overflow-sub-end-in-loop-end : goal.overflow-sub-end-in-loop-end
-overflow-sub-end-in-loop-end c =
+pub overflow_sub-end-in-loop-end : goal.overflow_sub-end-in-loop-end
+overflow_sub-end-in-loop-end c =
     let n = newest c.args.bytes.now c.loop-end.end c.loop-end.invariant.0 (omega arith) c.loop-end.invariant.1 in
     omega (arith, (room c.args.bytes.now c.loop-end.end n).0, c.read-trailer.ensures.len)
 

@@ -8,5 +8,5 @@ returns c =
     let bytes = c.args.bytes.now in
     record {
       answer = refl;
-      buffer = overlaid_part c.args.out.now bytes c.copy-from-slice.new.self at (at + length bytes - at) c.copy-from-slice.ensures.after (omega arith);
+      buffer = overlaid_part c.args.out.now bytes c.copy_from_slice.new.self at (at + length bytes - at) c.copy_from_slice.ensures.after (omega arith);
     }

@@ -19,11 +19,11 @@ returns-in-Some c =
     ap (date_entry c.args.key) c.in-Some.is ∙ ap (λ k. head_bytes 0 k ++ (tag ++ value)) (sym c.number.ensures) in
     let len : length (date_entry c.args.key c.args.value) ≡ length key + (length tag + length value) =
     ap length is ∙ length-append key (tag ++ value) ∙ ap (λ k. length key + k) (length-append tag value) in
-    let first : Put c.args.out.now c.args.at key c.put-head-tag.new.out c.put-head-tag.result =
-    record { wrote = c.put-head-tag.ensures.buffer; ends = c.put-head-tag.ensures.answer } in
-    let second : Put c.put-head-tag.new.out c.put-head-tag.result tag c.put-head-start.new.out c.put-head-start.result =
-    record { wrote = c.put-head-start.ensures.buffer; ends = c.put-head-start.ensures.answer } in
-    let third : Put c.put-head-start.new.out c.put-head-start.result value c.put-head.new.out c.put-head.result =
-    record { wrote = c.put-head.ensures.buffer; ends = c.put-head.ensures.answer } in
+    let first : Put c.args.out.now c.args.at key c.put_head-tag.new.out c.put_head-tag.result =
+    record { wrote = c.put_head-tag.ensures.buffer; ends = c.put_head-tag.ensures.answer } in
+    let second : Put c.put_head-tag.new.out c.put_head-tag.result tag c.put_head-start.new.out c.put_head-start.result =
+    record { wrote = c.put_head-start.ensures.buffer; ends = c.put_head-start.ensures.answer } in
+    let third : Put c.put_head-start.new.out c.put_head-start.result value c.put_head.new.out c.put_head.result =
+    record { wrote = c.put_head.ensures.buffer; ends = c.put_head.ensures.answer } in
     let put = put_as is (put_then first (put_then second third (omega arith)) (omega arith)) in
     record { answer = put.ends; buffer = put.wrote; value = subst Num (sym c.in-Some.is) (search rules) }

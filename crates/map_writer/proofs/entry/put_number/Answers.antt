@@ -16,9 +16,9 @@ returns-in-Some c =
     let value = head_bytes 0 c.in-Some.n in
     let is : number_entry c.args.key c.args.value ≡ key ++ value =
     ap (number_entry c.args.key) c.in-Some.is ∙ ap (λ k. head_bytes 0 k ++ value) (sym c.number.ensures) in
-    let first : Put c.args.out.now c.args.at key c.put-head-start.new.out c.put-head-start.result =
-    record { wrote = c.put-head-start.ensures.buffer; ends = c.put-head-start.ensures.answer } in
-    let second : Put c.put-head-start.new.out c.put-head-start.result value c.put-head.new.out c.put-head.result =
-    record { wrote = c.put-head.ensures.buffer; ends = c.put-head.ensures.answer } in
+    let first : Put c.args.out.now c.args.at key c.put_head-start.new.out c.put_head-start.result =
+    record { wrote = c.put_head-start.ensures.buffer; ends = c.put_head-start.ensures.answer } in
+    let second : Put c.put_head-start.new.out c.put_head-start.result value c.put_head.new.out c.put_head.result =
+    record { wrote = c.put_head.ensures.buffer; ends = c.put_head.ensures.answer } in
     let put = put_as is (put_then first second (omega (arith, ap length is ∙ length-append key value))) in
     record { answer = put.ends; buffer = put.wrote; value = subst Num (sym c.in-Some.is) (search rules) }

@@ -20,11 +20,11 @@ returns-in-Some c =
     ap (λ t. text_entry c.args.key (option_map (λ x. x.now) t)) c.in-Some.is ∙ ap (λ k. head_bytes 0 k ++ (head ++ text)) (sym c.number.ensures) in
     let len : length (text_entry c.args.key (option_map (λ x. x.now) c.args.text)) ≡ length key + (length head + length text) =
     ap length is ∙ length-append key (head ++ text) ∙ ap (λ k. length key + k) (length-append head text) in
-    let first : Put c.args.out.now c.args.at key c.put-head-value.new.out c.put-head-value.result =
-    record { wrote = c.put-head-value.ensures.buffer; ends = c.put-head-value.ensures.answer } in
-    let second : Put c.put-head-value.new.out c.put-head-value.result head c.put-head-start.new.out c.put-head-start.result =
-    record { wrote = c.put-head-start.ensures.buffer; ends = c.put-head-start.ensures.answer } in
-    let third : Put c.put-head-start.new.out c.put-head-start.result text c.put-bytes.new.out c.put-bytes.result =
-    record { wrote = c.put-bytes.ensures.buffer; ends = c.put-bytes.ensures.answer } in
+    let first : Put c.args.out.now c.args.at key c.put_head-value.new.out c.put_head-value.result =
+    record { wrote = c.put_head-value.ensures.buffer; ends = c.put_head-value.ensures.answer } in
+    let second : Put c.put_head-value.new.out c.put_head-value.result head c.put_head-start.new.out c.put_head-start.result =
+    record { wrote = c.put_head-start.ensures.buffer; ends = c.put_head-start.ensures.answer } in
+    let third : Put c.put_head-start.new.out c.put_head-start.result text c.put_bytes.new.out c.put_bytes.result =
+    record { wrote = c.put_bytes.ensures.buffer; ends = c.put_bytes.ensures.answer } in
     let put = put_as is (put_then first (put_then second third (omega arith)) (omega arith)) in
     record { answer = put.ends; buffer = put.wrote; value = subst (λ t. Text (option_map (λ x. x.now) t)) (sym c.in-Some.is) (omega arith) }

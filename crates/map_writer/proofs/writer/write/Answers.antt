@@ -10,11 +10,11 @@ use Rattle.map_writer.proofs.writer.write.Goals as goal
 laws : Laws
 laws = record { reads_back = reads_back; one_form = one_form; largest = largest }
 
-pub returns-in-err-len : goal.returns-in-err-len
-returns-in-err-len c =
+pub returns-in_err-len : goal.returns-in_err-len
+returns-in_err-len c =
     let bytes = written (meant c.args.p.now) in
     let out = c.args.out.now in
-    let huge = none_from_fits (length bytes) c.in-err-len.ensures.answer in
+    let huge = none_from_fits (length bytes) c.in_err-len.ensures.answer in
     let long : length out < length bytes = omega arith in
     record {
       answer = c.from-residual.ensures ∙ long-len bytes out long;
@@ -27,12 +27,12 @@ pub returns-then-len-out : goal.returns-then-len-out
 returns-then-len-out c =
     let bytes = written (meant c.args.p.now) in
     let out = c.args.out.now in
-    let len = some_from_fits (length bytes) c.in-ok-len.len c.in-ok-len.ensures.answer in
+    let len = some_from_fits (length bytes) c.in_ok-len.len c.in_ok-len.ensures.answer in
     let fits : length bytes ≤ length out = omega arith in
     record {
-      answer = fits-len bytes out c.put-map.result fits c.put-map.ensures.answer;
-      buffer = fits_placed bytes out c.put-map.new.out fits c.put-map.ensures.buffer;
-      reads_back = front_reads (meant c.args.p.now) out c.put-map.new.out c.put-map.result c.put-map.ensures.value c.put-map.ensures.answer c.put-map.ensures.buffer;
+      answer = fits-len bytes out c.put_map.result fits c.put_map.ensures.answer;
+      buffer = fits_placed bytes out c.put_map.new.out fits c.put_map.ensures.buffer;
+      reads_back = front_reads (meant c.args.p.now) out c.put_map.new.out c.put_map.result c.put_map.ensures.value c.put_map.ensures.answer c.put_map.ensures.buffer;
       laws = laws;
     }
 
@@ -40,7 +40,7 @@ pub returns-else-len-out : goal.returns-else-len-out
 returns-else-len-out c =
     let bytes = written (meant c.args.p.now) in
     let out = c.args.out.now in
-    let len = some_from_fits (length bytes) c.in-ok-len.len c.in-ok-len.ensures.answer in
+    let len = some_from_fits (length bytes) c.in_ok-len.len c.in_ok-len.ensures.answer in
     let long : length out < length bytes = omega arith in
     record {
       answer = long-len bytes out long;

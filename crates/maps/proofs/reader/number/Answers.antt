@@ -4,11 +4,11 @@ use Rattle.protocol.specs.Bytes.{be_number}
 use Rattle.maps.proofs.Numbers.{below_more, room, number_more}
 use Rattle.maps.proofs.reader.number.Goals as goal
 
-pub overflow-mul-n : goal.overflow-mul-n
-overflow-mul-n c = let r = room c.loop-b.n c.loop-b.b-index c.loop-b.invariant.1 (omega arith) in omega arith
+pub overflow_mul-n : goal.overflow_mul-n
+overflow_mul-n c = let r = room c.loop-b.n c.loop-b.b-index c.loop-b.invariant.1 (omega arith) in omega arith
 
-pub overflow-add-n : goal.overflow-add-n
-overflow-add-n c =
+pub overflow_add-n : goal.overflow_add-n
+overflow_add-n c =
     let r = room c.loop-b.n c.loop-b.b-index c.loop-b.invariant.1 (omega arith) in
     let b : get_or c.args.bytes.now c.loop-b.b-index 0 < 256 = search rules in
     omega arith

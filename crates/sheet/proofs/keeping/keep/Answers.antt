@@ -9,6 +9,6 @@ returns g c =
     let n = g.S.Store.capacity c.args.store.now in
     let k = properties_key c.args.handle.0 in
     record {
-      answer = c.keep-at.ensures.answer ∙ ap (λ a. answer_to (admitted a c.args.map.now) es n k) c.data-address-address.ensures;
-      after = c.keep-at.ensures.after ∙ ap (λ a. held_after (admitted a c.args.map.now) es n k) c.data-address-address.ensures;
+      answer = c.keep_at.ensures.answer ∙ ap (λ a. answer_to (admitted a c.args.map.now) es n k) c.data_address-address.ensures;
+      after = c.keep_at.ensures.after ∙ ap (λ a. held_after (admitted a c.args.map.now) es n k) c.data_address-address.ensures;
     }

@@ -8,20 +8,20 @@ use Rattle.sheet.specs.Keeping.{properties_key}
 use Rattle.sheet.proofs.Keeps.{never_none, len_is, value-is, refused, stored}
 use Rattle.sheet.proofs.keeping.keep_at.Goals as goal
 
-pub returns-in-err-topic : goal.returns-in-err-topic
-returns-in-err-topic g c =
+pub returns-in_err-topic : goal.returns-in_err-topic
+returns-in_err-topic g c =
     let x = err_from_is_err_and c.from-residual.result c.from-residual.ensures.1 in
-    let r = refused (g.S.Store.held c.args.store.now) (g.S.Store.capacity c.args.store.now) (properties_key c.args.handle.0) _ _ c.in-err-topic.ensures.answer in
+    let r = refused (g.S.Store.held c.args.store.now) (g.S.Store.capacity c.args.store.now) (properties_key c.args.handle.0) _ _ c.in_err-topic.ensures.answer in
     record { answer = x.1 ∙ ap Err x.2 ∙ r.0; after = r.1 }
 
-pub returns-in-default : goal.returns-in-default
-returns-in-default g c =
-    never_none (meant c.in-ok-topic.topic) _ (c.in-ok-topic.ensures.topical c.requires) (length-replicate {A = ℕ} 576 0) c.in-default.ensures.answer
+pub returns-in_default : goal.returns-in_default
+returns-in_default g c =
+    never_none (meant c.in_ok-topic.topic) _ (c.in_ok-topic.ensures.topical c.requires) (length-replicate {A = ℕ} 576 0) c.in_default.ensures.answer
 
-pub slice-bounds-put-end : goal.slice-bounds-put-end
-slice-bounds-put-end g c =
-    let p = meant c.in-ok-topic.topic in
-    let t = c.in-ok-topic.ensures.topical c.requires in
+pub slice_bounds-put-end : goal.slice_bounds-put-end
+slice_bounds-put-end g c =
+    let p = meant c.in_ok-topic.topic in
+    let t = c.in_ok-topic.ensures.topical c.requires in
     let n = len_is p _ t (length-replicate {A = ℕ} 576 0) c.in-Some.len c.in-Some.ensures.answer in
     let b = largest.bound p t in
     let l : c.in-Some.len ≤ 576 = omega arith in
@@ -29,11 +29,11 @@ slice-bounds-put-end g c =
 
 pub returns : goal.returns
 returns g c =
-    let p = meant c.in-ok-topic.topic in
-    let t = c.in-ok-topic.ensures.topical c.requires in
+    let p = meant c.in_ok-topic.topic in
+    let t = c.in_ok-topic.ensures.topical c.requires in
     let n = len_is p _ t (length-replicate {A = ℕ} 576 0) c.in-Some.len c.in-Some.ensures.answer in
     let s = stored (g.S.Store.held c.args.store.now) (g.S.Store.capacity c.args.store.now) (properties_key c.args.handle.0) _ p _ c.put.result _
-    c.in-ok-topic.ensures.answer
+    c.in_ok-topic.ensures.answer
     (value-is p _ t (length-replicate {A = ℕ} 576 0) c.in-Some.len _ _ n c.in-Some.ensures.buffer)
     c.put.ensures.answer c.put.ensures.after in
     record { answer = s.0; after = s.1 }

@@ -10,11 +10,11 @@ returns g c =
     let s = c.index-slots-at.result in
     let bytes = bytes_of s.payload in
     let out = c.args.out.now in
-    let after = c.copy-to-len.new.out in
-    let n = c.copy-to-len.result in (
+    let after = c.copy_to-len.new.out in
+    let n = c.copy_to-len.result in (
       s,
       c.index-slots-at.is,
       gives id (note_in id s) (record { subscriber = s.subscriber; content = s.content; len = n }) out after refl refl
-          (whole-len bytes out after n (bytes-short s.payload) c.requires.1 c.copy-to-len.ensures.answer)
-          (whole_buffer bytes out after n (bytes-short s.payload) c.requires.1 c.copy-to-len.ensures.buffer),
+          (whole-len bytes out after n (bytes-short s.payload) c.requires.1 c.copy_to-len.ensures.answer)
+          (whole_buffer bytes out after n (bytes-short s.payload) c.requires.1 c.copy_to-len.ensures.buffer),
     )

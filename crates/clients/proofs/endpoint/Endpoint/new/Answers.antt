@@ -8,6 +8,6 @@ returns c =
     let bs = c.args.address in
     let n : length bs ≡ 16 = search rules in
     record {
-      address = ap (be_bytes 16) (c.from-be-bytes.ensures ∙ number16 bs n) ∙ ap (λ k. be_bytes k (be_number bs)) (sym n) ∙ be_of_number bs (all_from_places bs (λ i. search rules));
+      address = ap (be_bytes 16) (c.from_be_bytes.ensures ∙ number16 bs n) ∙ ap (λ k. be_bytes k (be_number bs)) (sym n) ∙ be_of_number bs (all_from_places bs (λ i. search rules));
       port = refl;
     }

@@ -7,5 +7,5 @@ use Rattle.clients.proofs.token.Token.bytes.Goals as goal
 pub returns : goal.returns
 returns c =
     let t = c.args.self.now in
-    c.to-be-bytes.ensures ∙ be8 t.bits ∙ whole t.len t.bits t.short t.zeros
+    c.to_be_bytes.ensures ∙ be8 t.bits ∙ whole t.len t.bits t.short t.zeros
     ∙ ap (λ n. take t.len (be_bytes 8 t.bits) ++ replicate (8 - n) 0) (sym (length-token t.len t.bits t.short))

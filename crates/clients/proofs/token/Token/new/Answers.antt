@@ -5,21 +5,21 @@ use Rattle.std.proofs.lemmas.Bool.Decides.{nat_tests}
 use Rattle.clients.proofs.Tokens.{length_padded, padded_zeros, padded_token}
 use Rattle.clients.proofs.token.Token.new.Goals as goal
 
-pub invariant-of-result : goal.invariant-of-result
-invariant-of-result c =
+pub invariant_of-result : goal.invariant_of-result
+invariant_of-result c =
     let bs = c.args.bytes.now in
     let short : length bs ≤ 8 = omega arith in
-    let bits : c.from-be-bytes-bits.result ≡ be_number (bs ++ replicate (8 - length bs) 0) =
-    c.from-be-bytes-bits.ensures ∙ number8 c.padded.result (ap length c.padded.ensures ∙ length_padded bs short) ∙ ap be_number c.padded.ensures in
+    let bits : c.from_be_bytes-bits.result ≡ be_number (bs ++ replicate (8 - length bs) 0) =
+    c.from_be_bytes-bits.ensures ∙ number8 c.padded.result (ap length c.padded.ensures ∙ length_padded bs short) ∙ ap be_number c.padded.ensures in
     (short, (ap (λ b. b % 256 ^ (8 - length bs)) bits ∙ padded_zeros bs short, tt))
 
 pub returns : goal.returns
 returns c =
     let bs = c.args.bytes.now in
     let short : length bs ≤ 8 = omega arith in
-    let bits : c.from-be-bytes-bits.result ≡ be_number (bs ++ replicate (8 - length bs) 0) =
-    c.from-be-bytes-bits.ensures ∙ number8 c.padded.result (ap length c.padded.ensures ∙ length_padded bs short) ∙ ap be_number c.padded.ensures in
+    let bits : c.from_be_bytes-bits.result ≡ be_number (bs ++ replicate (8 - length bs) 0) =
+    c.from_be_bytes-bits.ensures ∙ number8 c.padded.result (ap length c.padded.ensures ∙ length_padded bs short) ∙ ap be_number c.padded.ensures in
     record {
       test = grind (arith, nat_tests);
-      value = ap (λ b. take (length bs) (be_bytes 8 b)) bits ∙ padded_token bs short (all_from_places bs (λ i. let f = c.type-inv.bytes i in search rules));
+      value = ap (λ b. take (length bs) (be_bytes 8 b)) bits ∙ padded_token bs short (all_from_places bs (λ i. let f = c.type_inv.bytes i in search rules));
     }

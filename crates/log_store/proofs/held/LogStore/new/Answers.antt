@@ -4,8 +4,8 @@ use Rattle.log_store.specs.Logs.{meaning}
 use Rattle.log_store.proofs.Format.{entries_none}
 use Rattle.log_store.proofs.held.LogStore.new.Goals as goal
 
-pub invariant-of-result : goal.invariant-of-result
-invariant-of-result c = (search rules, (ap encoded entries_none, (ap all_fit entries_none, (sym (ap (λ es. length (meaning es)) entries_none), (search rules, (c.requires, tt))))))
+pub invariant_of-result : goal.invariant_of-result
+invariant_of-result c = (search rules, (ap encoded entries_none, (ap all_fit entries_none, (sym (ap (λ es. length (meaning es)) entries_none), (search rules, (c.requires, tt))))))
 
 pub returns : goal.returns
 returns c = record { after = ap meaning entries_none; capacity = refl }

@@ -12,7 +12,7 @@ use Rattle.log_store.proofs.store.LogStoreStore.remove.Goals as goal
 pub returns-then-not-holds : goal.returns-then-not-holds
 returns-then-not-holds c =
     let es = entries (contents c.args.self.now.memory) in
-    let p : proper c.args.key ≡ true = sym c.is-proper.ensures ∙ c.if-not-is-proper.false in
+    let p : proper c.args.key ≡ true = sym c.is_proper.ensures ∙ c.if-not-is_proper.false in
     let h : is_some (look (meaning es) c.args.key) ≡ false = ap is_some (look-meaning es c.args.key) ∙ sym c.holds.ensures ∙ c.if-not-holds.true in
     record {
       answer = sym (remove_answers (meaning es) c.args.key false p h);
@@ -20,13 +20,13 @@ returns-then-not-holds c =
       capacity = refl;
     }
 
-pub overflow-sub-self : goal.overflow-sub-self
-overflow-sub-self c =
+pub overflow_sub-self : goal.overflow_sub-self
+overflow_sub-self c =
     let s = c.args.self.now in
     omega (arith, held-counts (entries (contents s.memory)) c.args.key (sym c.holds.ensures ∙ c.if-not-holds.false), s.counted)
 
-pub invariant-of-self : goal.invariant-of-self
-invariant-of-self c =
+pub invariant_of-self : goal.invariant_of-self
+invariant_of-self c =
     let s = c.args.self.now in
     let es = entries (contents s.memory) in
     let k = remove-kept (contents c.squeeze.new.self) es c.args.key (s.count - 1) s.fits c.squeeze.ensures.after (sym c.holds.ensures ∙ c.if-not-holds.false) (ap (λ i. i - 1) s.counted) in
@@ -38,7 +38,7 @@ pub returns : goal.returns
 returns c =
     let s = c.args.self.now in
     let es = entries (contents s.memory) in
-    let p : proper c.args.key ≡ true = sym c.is-proper.ensures ∙ c.if-not-is-proper.false in
+    let p : proper c.args.key ≡ true = sym c.is_proper.ensures ∙ c.if-not-is_proper.false in
     let h : is_some (look es c.args.key) ≡ true = sym c.holds.ensures ∙ c.if-not-holds.false in
     let k = remove-kept (contents c.squeeze.new.self) es c.args.key (s.count - 1) s.fits c.squeeze.ensures.after h (ap (λ i. i - 1) s.counted) in
     record {

@@ -11,5 +11,5 @@ returns c =
     let least : n - 0 ≡ min p.len (length out) = omega (arith, c.min-n.ensures) in
     record {
       answer = copied_length p.bytes out p.len n within c.min-n.ensures;
-      buffer = ap (λ f. f ++ drop (n - 0) out) c.copy-from-slice.ensures.after ∙ copied p.bytes out p.len (n - 0) within least;
+      buffer = ap (λ f. f ++ drop (n - 0) out) c.copy_from_slice.ensures.after ∙ copied p.bytes out p.len (n - 0) within least;
     }

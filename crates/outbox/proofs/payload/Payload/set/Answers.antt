@@ -2,13 +2,13 @@ use Rattle.std.proofs.Common.{◌≡◌, ◌-◌, min, length, take, ap, ◌∙�
 use Rattle.outbox.proofs.Payloads.{written, written-length}
 use Rattle.outbox.proofs.payload.Payload.set.Goals as goal
 
-pub invariant-of-self : goal.invariant-of-self
-invariant-of-self c = (
-  written-length c.copy-from-slice.new.self c.args.self.now.bytes (c.min-n.result - 0) 256 c.copy-from-slice.ensures.len c.args.self.now.place (omega (arith, c.min-n.ensures)),
+pub invariant_of-self : goal.invariant_of-self
+invariant_of-self c = (
+  written-length c.copy_from_slice.new.self c.args.self.now.bytes (c.min-n.result - 0) 256 c.copy_from_slice.ensures.len c.args.self.now.place (omega (arith, c.min-n.ensures)),
   (omega (arith, c.min-n.ensures), tt),
 )
 
 pub returns : goal.returns
 returns c =
     let from = ap (λ k. take k c.args.bytes.now) {x = c.min-n.result - 0} {y = c.min-n.result} (omega arith) in
-    written c.copy-from-slice.new.self c.args.bytes.now _ c.min-n.result 256 c.min-n.ensures (c.copy-from-slice.ensures.after ∙ from)
+    written c.copy_from_slice.new.self c.args.bytes.now _ c.min-n.result 256 c.min-n.ensures (c.copy_from_slice.ensures.after ∙ from)

@@ -5,8 +5,8 @@ use Rattle.shared_outbox.specs.declared.place.Place.{Place}
 use Rattle.shared_outbox.specs.Places.{body_of, counts}
 use Rattle.shared_outbox.proofs.places.Places.claim.Goals as goal
 
-pub overflow-add-place : goal.overflow-add-place
-overflow-add-place c = omega (arith, c.requires.1, users_of c.args.self.now.contents.now c.args.at c.index-self-at.result c.requires.0)
+pub overflow_add-place : goal.overflow_add-place
+overflow_add-place c = omega (arith, c.requires.1, users_of c.args.self.now.contents.now c.args.at c.index-self-at.result c.requires.0)
 
 pub returns : goal.returns
 returns c =

@@ -5,8 +5,8 @@ use Rattle.shared_outbox.specs.declared.place.Place.{Place}
 use Rattle.shared_outbox.specs.Places.{body_of, counts}
 use Rattle.shared_outbox.proofs.places.Places.release.Goals as goal
 
-pub overflow-sub-place : goal.overflow-sub-place
-overflow-sub-place c = omega (arith, c.requires.1, users_of c.args.self.now.contents.now c.args.at c.index-self-at.result c.requires.0)
+pub overflow_sub-place : goal.overflow_sub-place
+overflow_sub-place c = omega (arith, c.requires.1, users_of c.args.self.now.contents.now c.args.at c.index-self-at.result c.requires.0)
 
 pub returns : goal.returns
 returns c =

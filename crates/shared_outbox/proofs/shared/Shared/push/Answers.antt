@@ -16,14 +16,14 @@ claim-requires g c =
     let q = c.args.self.now in
     (c.requires.1, omega (arith, c.requires.0, q.counted c.args.place, uses_le c.args.place (held q), held-length q))
 
-pub invariant-of-self : goal.invariant-of-self
-invariant-of-self g c =
+pub invariant_of-self : goal.invariant_of-self
+invariant_of-self g c =
     let q = c.args.self.now in
     let e : Entry g.row.C.Denot = record { subscriber = c.args.subscriber; place = c.args.place } in
     let entries = q.row.entries.now in
     let contents = q.places.contents.now in
     let same : length c.write.new.self.entries.now ≡ length entries = ap length c.write.ensures ∙ length-set entries _ _ in
-    let grown = ring_in q.start q.len c.place-of-at.result entries c.write.new.self.entries.now e q.begins c.requires.0 c.place-of-at.ensures c.write.ensures in
+    let grown = ring_in q.start q.len c.place_of-at.result entries c.write.new.self.entries.now e q.begins c.requires.0 c.place_of-at.ensures c.write.ensures in
     let named : c.args.place < length (counts contents) = omega (arith, c.requires.1, counts-length contents) in (
       omega (arith, q.some, bodies-length c.claim.new.self.contents.now contents c.claim.ensures.bodies),
       (
@@ -47,7 +47,7 @@ returns g c =
     let q = c.args.self.now in
     let e : Entry g.row.C.Denot = record { subscriber = c.args.subscriber; place = c.args.place } in
     let entries = q.row.entries.now in
-    let grown = ring_in q.start q.len c.place-of-at.result entries c.write.new.self.entries.now e q.begins c.requires.0 c.place-of-at.ensures c.write.ensures in
+    let grown = ring_in q.start q.len c.place_of-at.result entries c.write.new.self.entries.now e q.begins c.requires.0 c.place_of-at.ensures c.write.ensures in
     record {
       after = ap (λ bs. map (note_at id bs) (ring q.start (q.len + 1) c.write.new.self.entries.now)) c.claim.ensures.bodies
           ∙ ap (map (note_at id (bodies_in q))) grown

@@ -11,7 +11,7 @@ returns g c =
     let q = c.args.self.now in
     let wrote = c.write.ensures in
     record {
-      after = ap (map (note_in id)) (ring_in q.start q.len c.place-of-at.result q.row.slots.now c.write.new.self.slots.now wrote.0 q.begins c.requires.0 c.place-of-at.ensures wrote.1)
+      after = ap (map (note_in id)) (ring_in q.start q.len c.place_of-at.result q.row.slots.now c.write.new.self.slots.now wrote.0 q.begins c.requires.0 c.place_of-at.ensures wrote.1)
           ∙ map_push (note_in id) (held q) wrote.0
           ∙ ap (λ n. map (note_in id) (held q) ++ n ∷ []) wrote.2;
       len = refl;

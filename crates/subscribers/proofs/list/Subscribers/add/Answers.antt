@@ -14,8 +14,8 @@ bounds-self-self g c =
     let facts = added_facts (standings id s) (room s) (pair_of id c.args.handle c.args.subscriber) c.in-Added.ensures in
     omega (arith, facts.2, length-standings id s.len s.places.now s.within)
 
-pub invariant-of-self : goal.invariant-of-self
-invariant-of-self g c =
+pub invariant_of-self : goal.invariant_of-self
+invariant_of-self g c =
     let id = g.C.Client.identity in
     let s = c.args.self.now in
     let p = subscription c.args.handle c.args.subscriber in

@@ -9,8 +9,8 @@ use Rattle.subscribers.specs.Standing.{limit}
 use Rattle.subscribers.proofs.Standings.{subs_standings}
 use Rattle.subscribers.proofs.list.Subscribers.collect.Goals as goal
 
-pub collect-in-requires : goal.collect-in-requires
-collect-in-requires g c =
+pub collect_in-requires : goal.collect_in-requires
+collect_in-requires g c =
     let few = c.args.self.now.few c.args.handle.0 in
     simp unary_clauses (omega arith)
 
@@ -21,12 +21,12 @@ returns g c =
     let s = c.args.self.now in
     let those = subscribers_at h (pairs s) in
     let work = c.args.work.now in
-    let count : c.collect-in.result ≡ length those = simp unary_clauses at c.collect-in.ensures.answer in
-    let filled : c.collect-in.new.work ≡ laid those work = simp unary_clauses at c.collect-in.ensures.buffer in
+    let count : c.collect_in.result ≡ length those = simp unary_clauses at c.collect_in.ensures.answer in
+    let filled : c.collect_in.new.work ≡ laid those work = simp unary_clauses at c.collect_in.ensures.buffer in
     let long = le-leb limit (length work) (omega arith) in
     record {
       answer = ap Ok count ∙ sym (cond-true _ _ _ long);
       buffer = filled ∙ sym (cond-true _ _ _ long);
-      standing = ap (λ w. map (sub_of id) (take c.collect-in.result w)) filled ∙ ap (map (sub_of id)) (take_at those (drop (length those) work) c.collect-in.result (sym count)) ∙ sym (subs_standings id h (pairs s));
+      standing = ap (λ w. map (sub_of id) (take c.collect_in.result w)) filled ∙ ap (map (sub_of id)) (take_at those (drop (length those) work) c.collect_in.result (sym count)) ∙ sym (subs_standings id h (pairs s));
       few = omega (arith, s.few h);
     }

@@ -8,5 +8,5 @@ pub returns : goal.returns
 returns g c =
     let h = c.args.handle.0 in
     let s = c.args.self.now in
-    let count : c.count-in.result ≡ length (subscribers_at h (pairs s)) = search rules in
+    let count : c.count_in.result ≡ length (subscribers_at h (pairs s)) = search rules in
     record { answer = count; standing = count ∙ sym (count_standings g.C.Client.identity h (pairs s)); few = omega (arith, s.few h) }

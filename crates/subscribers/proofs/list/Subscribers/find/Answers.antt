@@ -9,5 +9,5 @@ pub returns : goal.returns
 returns g c =
     let id = g.C.Client.identity in
     let x = pair_of id c.args.handle c.args.subscriber.now in
-    let found : c.find-in.result ≡ place (standings id c.args.self.now) x = search rules in
+    let found : c.find_in.result ≡ place (standings id c.args.self.now) x = search rules in
     record { answer = found; stands = ap is_some found ∙ place-stands (standings id c.args.self.now) x }

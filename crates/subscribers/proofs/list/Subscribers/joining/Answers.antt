@@ -9,7 +9,7 @@ returns-then-self-places g c =
     let id = g.C.Client.identity in
     let s = c.args.self.now in
     let x = pair_of id c.args.handle c.args.subscriber.now in
-    let new = sym c.find.ensures.stands ∙ sym c.if-is-some.ensures in
+    let new = sym c.find.ensures.stands ∙ sym c.if-is_some.ensures in
     let all = length-standings id s.len s.places.now s.within in
     told_no_place (standings id s) (room s) x _ s.len new refl all (inr (omega arith))
 
@@ -18,7 +18,7 @@ returns-then-count-ge-LIMIT g c =
     let id = g.C.Client.identity in
     let s = c.args.self.now in
     let x = pair_of id c.args.handle c.args.subscriber.now in
-    let new = sym c.find.ensures.stands ∙ sym c.if-is-some.ensures in
+    let new = sym c.find.ensures.stands ∙ sym c.if-is_some.ensures in
     told_no_place (standings id s) (room s) x c.count.result _ new c.count.ensures.standing refl (inl (omega arith))
 
 pub returns : goal.returns
@@ -26,6 +26,6 @@ returns g c =
     let id = g.C.Client.identity in
     let s = c.args.self.now in
     let x = pair_of id c.args.handle c.args.subscriber.now in
-    let new = sym c.find.ensures.stands ∙ sym c.if-is-some.ensures in
+    let new = sym c.find.ensures.stands ∙ sym c.if-is_some.ensures in
     let all = length-standings id s.len s.places.now s.within in
     told_added (standings id s) (room s) x c.count.result s.len new c.count.ensures.standing all (omega arith) (omega arith)

@@ -11,8 +11,8 @@ use Rattle.subscribers.proofs.Topics.{few_keeping}
 use Rattle.subscribers.proofs.list.Subscribers.remove.Goals as goal
 use Rattle.subscribers.proofs.list.Subscribers.remove.Goals.{then-not-is, else-not-is}
 
-pub invariant-of-self-then-not-is : goal.invariant-of-self-then-not-is
-invariant-of-self-then-not-is g c =
+pub invariant_of-self-then-not-is : goal.invariant_of-self-then-not-is
+invariant_of-self-then-not-is g c =
     let ys = c.loop-i.self.places.now in
     let i = c.loop-i.i in
     let x = get_or ys i c.index-self-i.result in

@@ -10,8 +10,8 @@ use Rattle.subscribers.proofs.Topics.{few_keeping}
 use Rattle.subscribers.proofs.list.Subscribers.remove_all.Goals as goal
 use Rattle.subscribers.proofs.list.Subscribers.remove_all.Goals.{then-pair-handle, else-pair-handle}
 
-pub invariant-of-self-then-pair-handle : goal.invariant-of-self-then-pair-handle
-invariant-of-self-then-pair-handle g c =
+pub invariant_of-self-then-pair-handle : goal.invariant_of-self-then-pair-handle
+invariant_of-self-then-pair-handle g c =
     let ys = c.loop-i.self.places.now in
     let i = c.loop-i.i in
     let x = get_or ys i c.index-self-i.result in

@@ -5,8 +5,8 @@ use Rattle.subscribers.proofs.Topics.{at_below, at_more, at_more_yes, laid_more}
 use Rattle.subscribers.proofs.list.scan.collect_in.Goals as goal
 use Rattle.subscribers.proofs.list.scan.collect_in.Goals.{then-pair-handle, else-pair-handle}
 
-pub offset-bounds-work-n : goal.offset-bounds-work-n
-offset-bounds-work-n g c =
+pub offset_bounds-work-n : goal.offset_bounds-work-n
+offset_bounds-work-n g c =
     let more = at_below c.args.handle.0 c.args.pairs.now c.loop-pair.pair-index c.pair-item.result c.loop-pair-test.true c.pair-item.is c.if-pair-handle.true in
     let within : c.loop-pair.n < length c.loop-pair.work = omega arith in
     search rules
@@ -16,8 +16,8 @@ bounds-work-n g c =
     let more = at_below c.args.handle.0 c.args.pairs.now c.loop-pair.pair-index c.pair-item.result c.loop-pair-test.true c.pair-item.is c.if-pair-handle.true in
     omega arith
 
-pub overflow-add-n : goal.overflow-add-n
-overflow-add-n g c =
+pub overflow_add-n : goal.overflow_add-n
+overflow_add-n g c =
     let more = at_below c.args.handle.0 c.args.pairs.now c.loop-pair.pair-index c.pair-item.result c.loop-pair-test.true c.pair-item.is c.if-pair-handle.true in
     let within : c.loop-pair.n < length c.loop-pair.work = omega arith in
     search rules

@@ -6,8 +6,8 @@ not_not : (b : Bool) → b ≡ not (not b)
 not_not true = refl
 not_not false = refl
 
-pub returns-then-is-proper : goal.returns-then-is-proper
-returns-then-is-proper c =
+pub returns-then-is_proper : goal.returns-then-is_proper
+returns-then-is_proper c =
     let s = c.args.self.now in
-    not_not c.is-none.result ∙ ap not (sym c.is-none.ensures)
-    ∙ sym (full_for s.places 64 c.args.key _ s.tidy s.count (sym c.if-is-proper.ensures) c.place-for.ensures.answer)
+    not_not c.is_none.result ∙ ap not (sym c.is_none.ensures)
+    ∙ sym (full_for s.places 64 c.args.key _ s.tidy s.count (sym c.if-is_proper.ensures) c.place_for.ensures.answer)

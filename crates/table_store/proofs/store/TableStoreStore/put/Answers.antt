@@ -7,13 +7,13 @@ use Rattle.table_store.specs.Tables.{full_for}
 use Rattle.table_store.proofs.Writes.{map-put, tidy-put}
 use Rattle.table_store.proofs.store.TableStoreStore.put.Goals as goal
 
-pub invariant-of-self : goal.invariant-of-self
-invariant-of-self c =
+pub invariant_of-self : goal.invariant_of-self
+invariant_of-self c =
     let s = c.args.self.now in (
       length-set s.places c.in-Some.i _ ∙ s.count,
       (
         ap (λ (q : Place). tidy (set s.places c.in-Some.i q)) c.fill.ensures
-            ∙ tidy-put s.places c.args.key c.args.value.now c.in-Some.i _ s.tidy (sym c.if-not-is-proper.ensures) c.if-value-gt-VALUE-LIMIT.false c.in-Some.ensures.place,
+            ∙ tidy-put s.places c.args.key c.args.value.now c.in-Some.i _ s.tidy (sym c.if-not-is_proper.ensures) c.if-value-gt-VALUE_LIMIT.false c.in-Some.ensures.place,
         tt,
       ),
     )
@@ -21,8 +21,8 @@ invariant-of-self c =
 pub returns-in-Some : goal.returns-in-Some
 returns-in-Some c =
     let s = c.args.self.now in
-    let p = sym c.if-not-is-proper.ensures in
-    let l = c.if-value-gt-VALUE-LIMIT.false in
+    let p = sym c.if-not-is_proper.ensures in
+    let l = c.if-value-gt-VALUE_LIMIT.false in
     record {
       answer = sym (put_answers (map_of s.places) 64 c.args.key c.args.value.now p l (full_for s.places 64 c.args.key true s.tidy s.count p c.in-Some.ensures.answer));
       after = ap (λ (q : Place). map_of (set s.places c.in-Some.i q)) c.fill.ensures
@@ -33,8 +33,8 @@ returns-in-Some c =
 pub returns-in-None : goal.returns-in-None
 returns-in-None c =
     let s = c.args.self.now in
-    let p = sym c.if-not-is-proper.ensures in
-    let l = c.if-value-gt-VALUE-LIMIT.false in
+    let p = sym c.if-not-is_proper.ensures in
+    let l = c.if-value-gt-VALUE_LIMIT.false in
     record {
       answer = sym (put_full (map_of s.places) 64 c.args.key c.args.value.now p l (full_for s.places 64 c.args.key false s.tidy s.count p c.in-None.ensures.answer));
       after = refl;

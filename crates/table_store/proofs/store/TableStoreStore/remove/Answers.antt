@@ -9,8 +9,8 @@ use Rattle.table_store.specs.Tables.{look_none, look_some}
 use Rattle.table_store.proofs.Writes.{map-remove, tidy-remove}
 use Rattle.table_store.proofs.store.TableStoreStore.remove.Goals as goal
 
-pub invariant-of-self : goal.invariant-of-self
-invariant-of-self c =
+pub invariant_of-self : goal.invariant_of-self
+invariant_of-self c =
     let s = c.args.self.now in (
       length-set s.places c.in-Some.i _ ∙ s.count,
       (
@@ -25,7 +25,7 @@ returns-in-Some c =
     let s = c.args.self.now in
     let f = c.in-Some.ensures in
     record {
-      answer = sym (remove_answers (map_of s.places) c.args.key true (sym c.if-not-is-proper.ensures) (look_some s.places c.args.key ∙ first_some s.places c.args.key c.in-Some.i f));
+      answer = sym (remove_answers (map_of s.places) c.args.key true (sym c.if-not-is_proper.ensures) (look_some s.places c.args.key ∙ first_some s.places c.args.key c.in-Some.i f));
       after = ap (λ (q : Place). map_of (set s.places c.in-Some.i q)) c.clear.ensures
           ∙ map-remove s.places c.args.key c.in-Some.i _ s.tidy f;
       capacity = refl;
@@ -36,7 +36,7 @@ returns-in-None c =
     let s = c.args.self.now in
     let e = look_none s.places c.args.key c.in-None.ensures in
     record {
-      answer = sym (remove_answers (map_of s.places) c.args.key false (sym c.if-not-is-proper.ensures) (ap is_some e));
+      answer = sym (remove_answers (map_of s.places) c.args.key false (sym c.if-not-is_proper.ensures) (ap is_some e));
       after = sym (remove_absent (map_of s.places) c.args.key e);
       capacity = refl;
     }

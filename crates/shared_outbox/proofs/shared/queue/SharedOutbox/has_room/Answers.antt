@@ -4,6 +4,6 @@ use Rattle.shared_outbox.proofs.shared.queue.SharedOutbox.has_room.Goals as goal
 
 pub returns : goal.returns
 returns g c = record {
-  answer = c.is-some.ensures ∙ c.place-for.ensures.answer;
+  answer = c.is_some.ensures ∙ c.place_for.ensures.answer;
   sound = room-sound c.args.self.now g.C.Client.identity;
 }

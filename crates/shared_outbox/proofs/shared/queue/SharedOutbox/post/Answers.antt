@@ -13,10 +13,10 @@ use Rattle.shared_outbox.specs.Places.{Body, blank, bodies, body_of}
 use Rattle.shared_outbox.proofs.shared.queue.SharedOutbox.post.Goals as goal
 
 pub write-requires : goal.write-requires
-write-requires g c = (c.in-Some.ensures.value.0, proper-short (length c.args.to.now) (length c.args.payload.now) c.if-not-is-proper.ensures)
+write-requires g c = (c.in-Some.ensures.value.0, proper-short (length c.args.to.now) (length c.args.payload.now) c.if-not-is_proper.ensures)
 
-pub invariant-of-self : goal.invariant-of-self
-invariant-of-self g c =
+pub invariant_of-self : goal.invariant_of-self
+invariant_of-self g c =
     let q = c.args.self.now in
     let same = same-counts-length c.write.new.self.contents.now q.places.contents.now c.write.ensures.users in
     (omega (arith, q.some, same), (q.roomy, (q.begins, (q.within, ((λ p. q.counted p ∙ sym (ap (λ ns. get_or ns p 0) c.write.ensures.users)), tt)))))
@@ -69,7 +69,7 @@ returns g c =
     let brought = ap (λ bs. get_or bs place blank) c.write.ensures.bodies ∙ get_or-set_same (bodies_in q) place _ blank within in
     let kept = ap (λ bs. map (note_at id bs) (held q)) c.write.ensures.bodies ∙ notes-kept id (bodies_in q) place _ (held q) found.1 in
     record {
-      answer = answer_ok (room_in q) (length to) (length c.args.payload.now) c.if-not-is-proper.ensures c.in-Some.ensures.answer;
+      answer = answer_ok (room_in q) (length to) (length c.args.payload.now) c.if-not-is_proper.ensures c.in-Some.ensures.answer;
       after = posted_all id body.content body.payload to c.loop-subscriber.subscriber-index (waiting_in id c.loop-subscriber.self) _ c.loop-subscriber-test.false i.0
           ∙ ap (λ ws. ws ++ notes_of id body.content body.payload to) kept
           ∙ ap (λ (b : Body). waiting_in id q ++ notes_of id b.content b.payload to) brought;
@@ -78,18 +78,18 @@ returns g c =
       capacity = (i.1, bodies-length c.loop-subscriber.self.places.contents.now written i.4 ∙ same-counts-length written q.places.contents.now c.write.ensures.users);
     }
 
-pub returns-then-not-is-proper : goal.returns-then-not-is-proper
-returns-then-not-is-proper g c = record {
-  answer = answer_bad (room_in c.args.self.now) (length c.args.to.now) (length c.args.payload.now) c.if-not-is-proper.ensures;
+pub returns-then-not-is_proper : goal.returns-then-not-is_proper
+returns-then-not-is_proper g c = record {
+  answer = answer_bad (room_in c.args.self.now) (length c.args.to.now) (length c.args.payload.now) c.if-not-is_proper.ensures;
   after = refl;
   same = λ e n l. refl;
   sound = room-sound c.args.self.now g.C.Client.identity;
   capacity = (refl, refl);
 }
 
-pub returns-in-default : goal.returns-in-default
-returns-in-default g c = record {
-  answer = answer_full (room_in c.args.self.now) (length c.args.to.now) (length c.args.payload.now) c.if-not-is-proper.ensures c.in-default.ensures.answer;
+pub returns-in_default : goal.returns-in_default
+returns-in_default g c = record {
+  answer = answer_full (room_in c.args.self.now) (length c.args.to.now) (length c.args.payload.now) c.if-not-is_proper.ensures c.in_default.ensures.answer;
   after = refl;
   same = λ e n l. refl;
   sound = room-sound c.args.self.now g.C.Client.identity;

@@ -26,11 +26,11 @@ release-requires g c =
     let p = place q.start 1 (capacity_of q) in
     (first-within q c.read-entry.result p some c.read-entry.ensures refl, first_named q c.read-entry.result p some c.read-entry.ensures refl)
 
-pub invariant-of-self : goal.invariant-of-self
-invariant-of-self g c =
+pub invariant_of-self : goal.invariant_of-self
+invariant_of-self g c =
     let q = c.args.self.now in
     let e = c.read-entry.result in
-    let p = c.place-of-self.result in
+    let p = c.place_of-self.result in
     let contents = q.places.contents.now in
     let some : 0 < q.len = omega (arith, c.if-self-eq0.false) in
     let next = ring p (q.len - 1) q.row.entries.now in (
@@ -38,11 +38,11 @@ invariant-of-self g c =
       (
         q.roomy,
         (
-          omega (arith, c.place-of-self.ensures, place-within q.start 1 (capacity_of q) q.begins (omega (arith, q.roomy))),
+          omega (arith, c.place_of-self.ensures, place-within q.start 1 (capacity_of q) q.begins (omega (arith, q.roomy))),
           (
             omega (arith, q.within),
             (
-              (λ i. counted_out next e (counts contents) (counted-first q e p some c.read-entry.ensures c.place-of-self.ensures) (counts c.release.new.self.contents.now) c.release.ensures.users i),
+              (λ i. counted_out next e (counts contents) (counted-first q e p some c.read-entry.ensures c.place_of-self.ensures) (counts c.release.new.self.contents.now) c.release.ensures.users i),
               tt,
             ),
           ),
@@ -55,7 +55,7 @@ returns g c =
     let id = g.C.Client.identity in
     let q = c.args.self.now in
     let e = c.read-entry.result in
-    let p = c.place-of-self.result in
+    let p = c.place_of-self.result in
     let out = c.args.out.now in
     let after = c.read-len.new.out in
     let some : 0 < q.len = omega (arith, c.if-self-eq0.false) in
@@ -63,7 +63,7 @@ returns g c =
     let n = note_at id (bodies_in q) e in
     let ns = map (note_at id (bodies_in q)) next in
     let m : Message g.row.C.Denot = record { subscriber = e.subscriber; content = c.read-len.result.0; len = c.read-len.result.1 } in
-    let waiting = ap (map (note_at id (bodies_in q))) (first q e p some c.read-entry.ensures c.place-of-self.ensures) in
+    let waiting = ap (map (note_at id (bodies_in q))) (first q e p some c.read-entry.ensures c.place_of-self.ensures) in
     let given = gives id n m out after refl c.read-len.ensures.content c.read-len.ensures.len c.read-len.ensures.buffer in
     let room : 256 ≤ length out = omega arith in
     record {

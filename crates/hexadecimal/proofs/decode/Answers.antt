@@ -1,9 +1,9 @@
 use Rattle.std.proofs.Common.{◌≡◌, ℕ, ◌+◌, ◌*◌, ◌<◌, true, ◌⊎◌, [], ◌∷◌, ◌++◌, get_or, drop, is_some, Some, None, vec_items, Option, sym, refl, ap, ◌∙◌, subst, arith, rules}
-use Rattle.hex.specs.Digits.{decoded, decoded_from, digit_value}
-use Rattle.hex.proofs.Texts.{Goes, space, no_first, first, no_second, second, spaceless, starts, goes_at, half, done}
+use Rattle.hexadecimal.specs.Digits.{decoded, decoded_from, digit_value}
+use Rattle.hexadecimal.proofs.Texts.{Goes, space, no_first, first, no_second, second, spaceless, starts, goes_at, half, done}
 use Rattle.std.specs.Option.{option_map}
-use Rattle.hex.proofs.decode.Goals as goal
-use Rattle.hex.proofs.decode.Goals.{in-None-Some, in-None-None+else-c-ne32, in-Some-Some+in-ok-push}
+use Rattle.hexadecimal.proofs.decode.Goals as goal
+use Rattle.hexadecimal.proofs.decode.Goals.{in-None-Some, in-None-None+else-c-ne32, in-Some-Some+in-ok-push}
 
 pub loop-c-init : goal.loop-c-init
 loop-c-init c = (starts c.args.text.now _ c.new-bytes.ensures.items, tt)
@@ -38,12 +38,12 @@ loop-c-preserved c =
       | in-Some-Some+in-ok-push w ↦
           let h = w.in-Some-Some.first in
           let d = w.in-Some-Some.digit in
-          goes_at cs _ (read ++ (h * 16 + d) ∷ []) _ None (i + 1) (ap vec_items w.bytes-is ∙ w.in-ok-push.ensures.items) w.high-is tt
+          goes_at cs _ (read ++ (h * 16 + d) ∷ []) _ None (i + 1) (ap vec_items w.bytes-is ∙ w.in_ok-push.ensures.items) w.high-is tt
           (second cs read i c.loop-c-test.true h d (sym w.in-Some-Some.ensures.value) (at (Some h) w.in-Some-Some.is-0))
     ]
 
-pub returns-then-is-some : goal.returns-then-is-some
-returns-then-is-some c = half c.args.text.now (vec_items c.loop-c.bytes) c.loop-c.high c.loop-c.c-index c.loop-c-test.false c.if-is-some.ensures c.loop-c.invariant.0
+pub returns-then-is_some : goal.returns-then-is_some
+returns-then-is_some c = half c.args.text.now (vec_items c.loop-c.bytes) c.loop-c.high c.loop-c.c-index c.loop-c-test.false c.if-is_some.ensures c.loop-c.invariant.0
 
 pub returns : goal.returns
-returns c = done c.args.text.now (vec_items c.loop-c.bytes) c.loop-c.high c.loop-c.c-index c.loop-c-test.false c.if-is-some.ensures c.loop-c.invariant.0
+returns c = done c.args.text.now (vec_items c.loop-c.bytes) c.loop-c.high c.loop-c.c-index c.loop-c-test.false c.if-is_some.ensures c.loop-c.invariant.0
