@@ -12,6 +12,6 @@ loop-missing-preserved c =
 
 pub returns-in_err-all : goal.returns-in_err-all
 returns-in_err-all c =
-    let p = err_from_is_err_and c.from-residual.result c.from-residual.ensures.1 in
+    let p = err_from_is_err_and c.from_residual.result c.from_residual.ensures.1 in
     rw (p.1, p.2)
     (stopped c.loop-missing.missing (meant c.loop-missing.all) (left c.loop-missing.reader) _ (omega arith) c.in_err-all.ensures c.loop-missing.invariant)

@@ -11,7 +11,7 @@ invariant_of-result c =
     let short : length bs ≤ 8 = omega arith in
     let bits : c.from_be_bytes-bits.result ≡ be_number (bs ++ replicate (8 - length bs) 0) =
     c.from_be_bytes-bits.ensures ∙ number8 c.padded.result (ap length c.padded.ensures ∙ length_padded bs short) ∙ ap be_number c.padded.ensures in
-    (short, (ap (λ b. b % 256 ^ (8 - length bs)) bits ∙ padded_zeros bs short, tt))
+    record { short = short; zeros = ap (λ b. b % 256 ^ (8 - length bs)) bits ∙ padded_zeros bs short }
 
 pub returns : goal.returns
 returns c =

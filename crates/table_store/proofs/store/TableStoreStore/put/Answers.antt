@@ -9,14 +9,11 @@ use Rattle.table_store.proofs.store.TableStoreStore.put.Goals as goal
 
 pub invariant_of-self : goal.invariant_of-self
 invariant_of-self c =
-    let s = c.args.self.now in (
-      length-set s.places c.in-Some.i _ ∙ s.count,
-      (
-        ap (λ (q : Place). tidy (set s.places c.in-Some.i q)) c.fill.ensures
-            ∙ tidy-put s.places c.args.key c.args.value.now c.in-Some.i _ s.tidy (sym c.if-not-is_proper.ensures) c.if-value-gt-VALUE_LIMIT.false c.in-Some.ensures.place,
-        tt,
-      ),
-    )
+    let s = c.args.self.now in record {
+      count = length-set s.places c.in-Some.i _ ∙ s.count;
+      tidy = ap (λ (q : Place). tidy (set s.places c.in-Some.i q)) c.fill.ensures
+          ∙ tidy-put s.places c.args.key c.args.value.now c.in-Some.i _ s.tidy (sym c.if-not-is_proper.ensures) c.if-value-gt-VALUE_LIMIT.false c.in-Some.ensures.place;
+    }
 
 pub returns-in-Some : goal.returns-in-Some
 returns-in-Some c =

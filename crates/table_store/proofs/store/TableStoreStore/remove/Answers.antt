@@ -11,14 +11,11 @@ use Rattle.table_store.proofs.store.TableStoreStore.remove.Goals as goal
 
 pub invariant_of-self : goal.invariant_of-self
 invariant_of-self c =
-    let s = c.args.self.now in (
-      length-set s.places c.in-Some.i _ ∙ s.count,
-      (
-        ap (λ (q : Place). tidy (set s.places c.in-Some.i q)) c.clear.ensures
-            ∙ tidy-remove s.places c.args.key c.in-Some.i _ s.tidy c.in-Some.ensures,
-        tt,
-      ),
-    )
+    let s = c.args.self.now in record {
+      count = length-set s.places c.in-Some.i _ ∙ s.count;
+      tidy = ap (λ (q : Place). tidy (set s.places c.in-Some.i q)) c.clear.ensures
+          ∙ tidy-remove s.places c.args.key c.in-Some.i _ s.tidy c.in-Some.ensures;
+    }
 
 pub returns-in-Some : goal.returns-in-Some
 returns-in-Some c =

@@ -3,7 +3,7 @@ use Rattle.table_store.specs.Tables.{map_empty, tidy_empty}
 use Rattle.table_store.proofs.table.TableStore.new.Goals as goal
 
 pub invariant_of-result : goal.invariant_of-result
-invariant_of-result c = (refl, (tidy_empty 64 c.empty.result c.empty.ensures.answer c.empty.ensures.len, tt))
+invariant_of-result c = record { count = refl; tidy = tidy_empty 64 c.empty.result c.empty.ensures.answer c.empty.ensures.len }
 
 pub returns : goal.returns
 returns c = map_empty 64 c.empty.result c.empty.ensures.answer
