@@ -1,7 +1,8 @@
 pub mod Format
-pub mod Walks
-pub mod Shifts
-pub mod Sifts
+pub mod Laws
 pub mod Meanings
 pub mod Nexts
+pub mod Shifts
+pub mod Sifts
 pub mod Stores
+pub mod Walks

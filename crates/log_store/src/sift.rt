@@ -1,7 +1,7 @@
 // Squeezes entries out of a log, each byte that stays moved at most twice.
 ghost use Rattle.std.specs.Prelude.{◌≡◌, ◌≤◌, [], length, take};
 ghost use Rattle.log_store.specs.Format.{Log, encoded, entries};
-ghost use Rattle.log_store.specs.Logs.{sifted, stays as stays-in};
+ghost use Rattle.log_store.specs.Logs.{sifted, stays as stays_in};
 
 use crate::moves::{move_to_front, move_up};
 use crate::trailer::{TRAILER, read};
@@ -11,7 +11,7 @@ use store::Key;
 // Whether an entry of the key stays, beside the newer ones that stay.
 fn stays(newer: &[u8], key: Key, gone: Key, dead: bool) -> bool
     requires { Log newer.now }
-    ensures { result ≡ stays-in gone dead (entries newer.now) key }
+    ensures { result ≡ stays_in gone dead (entries newer.now) key }
 {
     if key.is(gone) {
         return false;

@@ -3,6 +3,8 @@ ghost use Rattle.std.specs.Prelude.{◌≡◌, ◌+◌, ◌/◌, ◌^◌, ◌<�
 ghost use Rattle.log_store.specs.Format.{entries};
 ghost use Rattle.log_store.specs.Logs.{meaning};
 ghost use Rattle.log_store.specs.Memories.{contents, size};
+ghost use Rattle.log_store.proofs.Meanings.{sound-meaning};
+ghost use Rattle.log_store.proofs.Laws.{two_entries, within_of};
 
 use crate::held::LogStore;
 use crate::memory::Memory;
@@ -42,6 +44,12 @@ impl Store for LogStore<'_> {
     ghost held = { λ s. meaning (entries (contents s.memory)) };
 
     ghost capacity = { λ s. size s.memory / 583 };
+
+    ghost sound = { λ s. sound-meaning (entries (contents s.memory)) s.fits };
+
+    ghost roomy = { λ s. two_entries (size s.memory) s.roomy };
+
+    ghost within = { λ s. within_of s.count (length (meaning (entries (contents s.memory)))) (size s.memory / 583) s.counted s.bounded };
 
     fn get(&self, key: Key, out: &mut [u8]) -> Result<Option<usize>, Refusal> {
         if !key.is_proper() || out.len() < VALUE_LIMIT {

@@ -139,13 +139,13 @@ entries-read p w =
     ap (λ n. entries_of n nothing (written_entries p)) (counts (one_if (is_some name)) (one_if (is_some address)) (one_if (is_some resource)) (one_if (is_some format)) (one_if (is_some topic)) (one_if (is_some date)) (one_if (is_some most)) (one_if (is_some check)))
     ∙ ap (λ l. entries_of (one_if (is_some name) + k1) nothing (text_entry Name name ++ (text_entry DataAddress address ++ (text_entry ResourceType resource ++ (number_entry ContentFormat format ++ (text_entry TopicType topic ++ (date_entry Expiration date ++ (number_entry MaxSubscribers most ++ l)))))))) (sym (append-nil (number_entry ObserverCheck check)))
     ∙ text_step k1 r1 Name (λ o. props o None None None None None None None) refl (λ _. refl) name w.name
-    ∙ text_step k2 r2 DataAddress (λ o. props name o None None None None None None) refl (λ _. refl) address w.data-address
-    ∙ text_step k3 r3 ResourceType (λ o. props name address o None None None None None) refl (λ _. refl) resource w.resource-type
-    ∙ number_step k4 r4 ContentFormat (λ o. props name address resource o None None None None) refl (λ _. refl) format w.content-format
-    ∙ text_step k5 r5 TopicType (λ o. props name address resource format o None None None) refl (λ _. refl) topic w.topic-type
+    ∙ text_step k2 r2 DataAddress (λ o. props name o None None None None None None) refl (λ _. refl) address w.data_address
+    ∙ text_step k3 r3 ResourceType (λ o. props name address o None None None None None) refl (λ _. refl) resource w.resource_type
+    ∙ number_step k4 r4 ContentFormat (λ o. props name address resource o None None None None) refl (λ _. refl) format w.content_format
+    ∙ text_step k5 r5 TopicType (λ o. props name address resource format o None None None) refl (λ _. refl) topic w.topic_type
     ∙ date-step k6 r6 Expiration (λ o. props name address resource format topic o None None) refl (λ _. refl) date w.expiration
-    ∙ number_step k7 r7 MaxSubscribers (λ o. props name address resource format topic date o None) refl (λ _. refl) most w.max-subscribers
-    ∙ number_step k8 r8 ObserverCheck (λ o. props name address resource format topic date most o) refl (λ _. refl) check w.observer-check
+    ∙ number_step k7 r7 MaxSubscribers (λ o. props name address resource format topic date o None) refl (λ _. refl) most w.max_subscribers
+    ∙ number_step k8 r8 ObserverCheck (λ o. props name address resource format topic date most o) refl (λ _. refl) check w.observer_check
 
 pub reads_back : ReadsBack
 reads_back p w =

@@ -1,7 +1,7 @@
 // The trait of stores: every method is an equality on the map that the store means.
 ghost use Rattle.std.specs.Prelude.{◌≡◌, ℕ, ◌≤◌, List, length, is_ok, if◌then◌else◌};
 ghost use Rattle.std.specs.Option.{option_map};
-ghost use Rattle.store.specs.Held.{Entry, Sound, full, get_answer, get_buffer, next as next_of, put as put_in, put_answer, remove as remove-from, remove_answer};
+ghost use Rattle.store.specs.Held.{Entry, Sound, full, get_answer, get_buffer, next as next_of, put as put_in, put_answer, remove as remove_from, remove_answer};
 
 use crate::key::Key;
 use protocol::{Handle, Refusal};
@@ -34,7 +34,7 @@ pub trait Store {
     // Clears the key, and tells whether it had a value.
     fn remove(&mut self, key: Key) -> Result<bool, Refusal>
         ensures answer { result ≡ remove_answer (held self.old) key }
-        ensures after { held self.new ≡ (if is_ok result then remove-from (held self.old) key else held self.old) }
+        ensures after { held self.new ≡ (if is_ok result then remove_from (held self.old) key else held self.old) }
         ensures capacity { capacity self.new ≡ capacity self.old };
 
     // The lowest handle above the given one that has properties.

@@ -7,12 +7,11 @@ use clients::{Client, Subscriber};
 use protocol::Handle;
 
 // A topic's handle and one who is subscribed to it.
+#[derive(Clone, Copy)]
 pub struct Subscription<C> {
     pub handle: Handle,
     pub subscriber: Subscriber<C>,
 }
-
-impl<C: Copy> Copy for Subscription<C> {}
 
 impl<C: Client> Subscription<C> {
     // Whether this is the pair of that handle and that subscriber.

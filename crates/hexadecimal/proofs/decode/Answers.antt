@@ -3,7 +3,7 @@ use Rattle.hexadecimal.specs.Digits.{decoded, decoded_from, digit_value}
 use Rattle.hexadecimal.proofs.Texts.{Goes, space, no_first, first, no_second, second, spaceless, starts, goes_at, half, done}
 use Rattle.std.specs.Option.{option_map}
 use Rattle.hexadecimal.proofs.decode.Goals as goal
-use Rattle.hexadecimal.proofs.decode.Goals.{in-None-Some, in-None-None+else-c-ne32, in-Some-Some+in_ok-push}
+use Rattle.hexadecimal.proofs.decode.Goals.{in-None-Some, in-None-None+else-c-ne32, in-Some-Some+in_ok-push-in-Some-Some}
 
 pub loop-c-init : goal.loop-c-init
 loop-c-init c = (starts c.args.text.now _ c.new-bytes.ensures.items, tt)
@@ -35,7 +35,7 @@ loop-c-preserved c =
       | in-None-None+else-c-ne32 w ↦
           goes_at cs _ read _ None (i + 1) (ap vec_items w.bytes-is) (w.high-is ∙ w.in-None-None.is-0) tt
           (space cs read i c.loop-c-test.true w.if-c-ne32.false (at None w.in-None-None.is-0))
-      | in-Some-Some+in_ok-push w ↦
+      | in-Some-Some+in_ok-push-in-Some-Some w ↦
           let h = w.in-Some-Some.first in
           let d = w.in-Some-Some.digit in
           goes_at cs _ (read ++ (h * 16 + d) ∷ []) _ None (i + 1) (ap vec_items w.bytes-is ∙ w.in_ok-push.ensures.items) w.high-is tt

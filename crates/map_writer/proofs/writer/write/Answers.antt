@@ -17,9 +17,9 @@ returns-in_err-len c =
     let huge = none_from_fits (length bytes) c.in_err-len.ensures.answer in
     let long : length out < length bytes = omega arith in
     record {
-      answer = c.from-residual.ensures ∙ long-len bytes out long;
+      answer = c.from_residual.ensures ∙ long-len bytes out long;
       buffer = long_placed bytes out long;
-      reads_back = subst (λ r. IfSome r (λ n. read_map (take n out) ≡ Ok (meant c.args.p.now))) (sym c.from-residual.ensures) tt;
+      reads_back = subst (λ r. IfSome r (λ n. read_map (take n out) ≡ Ok (meant c.args.p.now))) (sym c.from_residual.ensures) tt;
       laws = laws;
     }
 

@@ -10,7 +10,7 @@ use Rattle.sheet.proofs.keeping.keep_at.Goals as goal
 
 pub returns-in_err-topic : goal.returns-in_err-topic
 returns-in_err-topic g c =
-    let x = err_from_is_err_and c.from-residual.result c.from-residual.ensures.1 in
+    let x = err_from_is_err_and c.from_residual.result c.from_residual.ensures.1 in
     let r = refused (g.S.Store.held c.args.store.now) (g.S.Store.capacity c.args.store.now) (properties_key c.args.handle.0) _ _ c.in_err-topic.ensures.answer in
     record { answer = x.1 ∙ ap Err x.2 ∙ r.0; after = r.1 }
 

@@ -10,12 +10,12 @@ use Rattle.topics.proofs.admission.new_topic.Goals as goal
 pub returns-in_err-check_range : goal.returns-in_err-check_range
 returns-in_err-check_range c =
     let p = meant c.in_ok-given.given in
-    let x = err_from_is_err_and c.from-residual-in_err-check_range.result c.from-residual-in_err-check_range.ensures.1 in
+    let x = err_from_is_err_and c.from_residual-in_err-check_range.result c.from_residual-in_err-check_range.ensures.1 in
     let f = failed (in_range p) _ c.in_err-check_range.ensures in
     let short : length c.args.map.now ≤ 576 = omega arith in
     record {
       answer = ap told x.1 ∙ ap Err (x.2 ∙ f.1) ∙ ranged_out c.args.address.now c.args.map.now short p c.in_ok-given.ensures f.0;
-      topical = λ _. IfOk-from_err _ _ c.from-residual-in_err-check_range.ensures.0;
+      topical = λ _. IfOk-from_err _ _ c.from_residual-in_err-check_range.ensures.0;
     }
 
 pub returns : goal.returns
