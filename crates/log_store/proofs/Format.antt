@@ -6,6 +6,7 @@ use Rattle.std.proofs.lemmas.List.{get_or-take, get_or-append-add, length-take-l
 use Rattle.std.proofs.lemmas.Bool.{and_parts, ltb-true, leb-true, le-leb, lt-leb, cond-true, cond-false}
 use Rattle.store.specs.declared.key.Key.{Key}
 use Rattle.store.specs.Held.{Entry, proper, value_limit}
+use Rattle.log_store.specs.Laws.{Fit, fit_parts, fit-first, fit-rest}
 use Rattle.log_store.specs.Format.{trailer, entry_bytes, encoded, key_at, len_at, entry_at, parsed, entries, fit, all_fit, Holds, Log}
 
 pub length-trailer : (k : Key) (n : ℕ) → length (trailer k n) ≡ 7
@@ -14,24 +15,6 @@ length-trailer k n = refl
 
 pub length-entry : (e : Entry) → length (entry_bytes e) ≡ length e.value + 7
 length-entry e = length-append e.value (trailer e.key (length e.value)) ∙ ap (λ n. length e.value + n) (length-trailer e.key (length e.value))
-
--- what makes an entry fit
-pub record Fit (e : Entry) : Type 0 where
-  pub proper_key : proper e.key ≡ true
-  pub handle : e.key.handle.0 < 4294967296
-  pub short : length e.value ≤ 576
-
-pub fit_parts : (e : Entry) → fit e ≡ true → Fit e
-fit_parts e h =
-    let p = and_parts (proper e.key && ltb e.key.handle.0 4294967296) (leb (length e.value) value_limit) h in
-    let q = and_parts (proper e.key) (ltb e.key.handle.0 4294967296) p.0 in
-    record { proper_key = q.0; handle = ltb-true _ _ q.1; short = leb-true _ _ p.1 }
-
-pub fit-first : (e : Entry) (es : List Entry) → all_fit (e ∷ es) ≡ true → fit e ≡ true
-fit-first e es h = (and_parts (fit e) (all_fit es) h).0
-
-pub fit-rest : (e : Entry) (es : List Entry) → all_fit (e ∷ es) ≡ true → all_fit es ≡ true
-fit-rest e es h = (and_parts (fit e) (all_fit es) h).1
 
 -- what is read at the end of bytes that end with a trailer
 module _ (bs p : List ℕ) (k : Key) (n end : ℕ) (lies : take end bs ≡ p ++ trailer k n) (ends : end ≡ length p + 7) where

@@ -1,5 +1,4 @@
 pub mod Format
-pub mod Laws
 pub mod Meanings
 pub mod Nexts
 pub mod Shifts

@@ -8,18 +8,13 @@ use Rattle.store.proofs.Maps.{key-is, length-put, length-remove, look-put, look-
 use Rattle.log_store.specs.Format.{Holds, all_fit, encoded, entry_bytes, fit}
 use Rattle.log_store.specs.Logs.{meaning, sifted, stays}
 use Rattle.log_store.specs.Memories.{with_entry}
-use Rattle.log_store.proofs.Format.{fit-first, fit_parts, fit-rest, length-entry}
+use Rattle.log_store.specs.Laws.{fit-first, fit_parts, fit-rest, sound-meaning}
+use Rattle.log_store.proofs.Format.{length-entry}
 use Rattle.log_store.proofs.Sifts.{fit-oldest}
 
 pub look-meaning : (es : List Entry) (k : Key) → look (meaning es) k ≡ look es k
 look-meaning [] k = refl
 look-meaning (e ∷ es) k = look-put (meaning es) e.key e.value k ∙ ap (cond (same_key e.key k) (Some e.value)) (look-meaning es k)
-
-pub sound-meaning : (es : List Entry) → all_fit es ≡ true → Sound (meaning es)
-sound-meaning [] a = tt
-sound-meaning (e ∷ es) a =
-    let p = fit_parts e (fit-first e es a) in
-    sound-put (meaning es) e.key e.value p.proper_key p.short (sound-meaning es (fit-rest e es a))
 
 -- the value in the first of two that has one
 abbrev first : Option (List ℕ) → Option (List ℕ) → Option (List ℕ)

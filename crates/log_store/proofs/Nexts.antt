@@ -7,7 +7,7 @@ use Rattle.store.proofs.Maps.{lowest-next, lowest_one}
 use Rattle.store.proofs.Scans.{lower_assoc, lowest-put}
 use Rattle.log_store.specs.Format.{all_fit, entries, key_at, len_at}
 use Rattle.log_store.specs.Logs.{meaning}
-use Rattle.log_store.proofs.Meanings.{sound-meaning}
+use Rattle.log_store.specs.Laws.{sound-meaning}
 use Rattle.log_store.proofs.Walks.{Newest, left_is}
 
 -- the lowest handle of entries of properties above a handle

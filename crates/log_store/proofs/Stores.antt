@@ -8,8 +8,9 @@ use Rattle.store.proofs.Maps.{length-put, length-remove}
 use Rattle.log_store.specs.Format.{Holds, all_fit, encoded, entries, fit}
 use Rattle.log_store.specs.Logs.{meaning, sifted}
 use Rattle.log_store.specs.Memories.{with_entry}
-use Rattle.log_store.proofs.Format.{entries_are, fit_parts, log_from}
-use Rattle.log_store.proofs.Meanings.{look-meaning, meaning-sifted, meaning_with, sifted-fit, sound-meaning, with_fit}
+use Rattle.log_store.specs.Laws.{fit_parts, sound-meaning}
+use Rattle.log_store.proofs.Format.{entries_are, log_from}
+use Rattle.log_store.proofs.Meanings.{look-meaning, meaning-sifted, meaning_with, sifted-fit, with_fit}
 
 -- bytes that are a log of the map m, and the number of its keys
 pub record Kept (bs : List ℕ) (count : ℕ) (m : List Entry) : Type 0 where

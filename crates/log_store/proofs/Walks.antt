@@ -5,7 +5,8 @@ use Rattle.std.proofs.lemmas.Bool.{cond-true, cond-false}
 use Rattle.store.specs.declared.key.Key.{Key}
 use Rattle.store.specs.Held.{Entry, look, same_key}
 use Rattle.log_store.specs.Format.{key_at, len_at, entries, fit, Holds, Log}
-use Rattle.log_store.proofs.Format.{Top, top_of, fit-first, fit-rest, fit_parts, entries_are, log_from}
+use Rattle.log_store.specs.Laws.{fit-first, fit-rest, fit_parts}
+use Rattle.log_store.proofs.Format.{Top, top_of, entries_are, log_from}
 
 -- the newest entry of the log up to a place that is not its start
 pub record Newest (bs : List ℕ) (end : ℕ) : Type 0 where

@@ -1,3 +1,4 @@
 pub mod Format
+pub mod Laws
 pub mod Logs
 pub mod Memories

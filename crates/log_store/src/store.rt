@@ -3,8 +3,7 @@ ghost use Rattle.std.specs.Prelude.{◌≡◌, ◌+◌, ◌/◌, ◌^◌, ◌<�
 ghost use Rattle.log_store.specs.Format.{entries};
 ghost use Rattle.log_store.specs.Logs.{meaning};
 ghost use Rattle.log_store.specs.Memories.{contents, size};
-ghost use Rattle.log_store.proofs.Meanings.{sound-meaning};
-ghost use Rattle.log_store.proofs.Laws.{two_entries, within_of};
+ghost use Rattle.log_store.specs.Laws.{sound-meaning, two_entries, within_of};
 
 use crate::held::LogStore;
 use crate::memory::Memory;

@@ -22,7 +22,7 @@ invariant_of-self g c =
     let facts = added_facts (standings id s) (room s) (standing_of id p) c.in-Added.ensures in
     let inside : s.len < length s.places.now = omega (arith, facts.2, length-standings id s.len s.places.now s.within) in
     let few = few_push (pairs s) p (omega (arith, facts.1, count_standings id c.args.handle.0 (pairs s))) s.few in
-    (omega (arith, length-set s.places.now s.len p), (subst Few (sym (take_more_set s.places.now s.len p inside)) few, tt))
+    record { within = omega (arith, length-set s.places.now s.len p); few = subst Few (sym (take_more_set s.places.now s.len p inside)) few }
 
 pub returns-in-Added : goal.returns-in-Added
 returns-in-Added g c =

@@ -18,7 +18,7 @@ invariant_of-self-then-not-is g c =
     let x = get_or ys i c.index-self-i.result in
     let inside : i < length ys = omega (arith, c.loop-i.invariant.long, c.args.self.now.within) in
     let kept = FiltersInPlace-more_set {x = x} c.loop-i.invariant inside (ap not (sym c.if-not-is.ensures.answer)) (ap (get_or ys i) c.index-self-i.is) in
-    (omega arith, (few_keeping c.args.self.now.len kept (omega arith) c.args.self.now.few, tt))
+    record { within = omega arith; few = few_keeping c.args.self.now.len kept (omega arith) c.args.self.now.few }
 
 pub loop-i-preserved : goal.loop-i-preserved
 loop-i-preserved g c =

@@ -9,7 +9,7 @@ pub offset_bounds-work-n : goal.offset_bounds-work-n
 offset_bounds-work-n g c =
     let more = at_below c.args.handle.0 c.args.pairs.now c.loop-pair.pair-index c.pair-item.result c.loop-pair-test.true c.pair-item.is c.if-pair-handle.true in
     let within : c.loop-pair.n < length c.loop-pair.work = omega arith in
-    search rules
+    ?
 
 pub bounds-work-n : goal.bounds-work-n
 bounds-work-n g c =
