@@ -38,7 +38,7 @@ loop-c-preserved c =
       | in-Some-Some+in_ok-push-in-Some-Some w ↦
           let h = w.in-Some-Some.first in
           let d = w.in-Some-Some.digit in
-          goes_at cs _ (read ++ (h * 16 + d) ∷ []) _ None (i + 1) (ap vec_items w.bytes-is ∙ w.in_ok-push.ensures.items) w.high-is tt
+          goes_at cs _ (read ++ (h * 16 + d) ∷ []) _ None (i + 1) (ap vec_items w.bytes-is ∙ w.in_ok-push-in-Some-Some.ensures.items) w.high-is tt
           (second cs read i c.loop-c-test.true h d (sym w.in-Some-Some.ensures.value) (at (Some h) w.in-Some-Some.is-0))
     ]
 
