@@ -18,7 +18,7 @@ fn is_topic_type(text: Option<&[u8]>) -> bool
     ensures { result ≡ gives (codes "core.ps.data") (option_map (λ x. x.now) text.entry) }
 {
     match text {
-        Some(t) => t == b"core.ps.data",
+        Some(t) => t == b"core.ps.data".as_slice(),
         None => false,
     }
 }

@@ -67,8 +67,8 @@ loop-end-preserved c =
 pub overflow_sub-result : goal.overflow_sub-result
 overflow_sub-result c = omega (arith, c.loop-end.invariant.within, c.loop-end.invariant.long)
 
-pub shape-of-bytes : goal.shape-of-bytes
-shape-of-bytes c = c.move_to_front.auto.bytes ∙ c.loop-end.invariant.long
+pub shape_of-bytes : goal.shape_of-bytes
+shape_of-bytes c = c.move_to_front.auto.bytes ∙ c.loop-end.invariant.long
 
 pub returns : goal.returns
 returns c =

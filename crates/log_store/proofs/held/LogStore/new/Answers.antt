@@ -5,7 +5,15 @@ use Rattle.log_store.proofs.Format.{entries_none}
 use Rattle.log_store.proofs.held.LogStore.new.Goals as goal
 
 pub invariant_of-result : goal.invariant_of-result
-invariant_of-result c = (search rules, (ap encoded entries_none, (ap all_fit entries_none, (sym (ap (λ es. length (meaning es)) entries_none), (search rules, (c.requires, tt))))))
+invariant_of-result c =
+    record {
+      within = search rules;
+      log = ap encoded entries_none;
+      fits = ap all_fit entries_none;
+      counted = sym (ap (λ es. length (meaning es)) entries_none);
+      bounded = search rules;
+      roomy = c.requires;
+    }
 
 pub returns : goal.returns
 returns c = record { after = ap meaning entries_none; capacity = refl }

@@ -61,7 +61,14 @@ invariant_of-self c =
     let q = place_for es c.args.key (size s.memory / 583) p b (sym f ∙ c.if-no_place.false) in
     let z : size c.put.new.self ≡ size s.memory = c.put.ensures.len in
     let y : c.count_with-self.result ≤ size s.memory / 583 = omega arith in
-    (c.put.ensures.within, (k.log, (k.fits, (k.counted, (subst (λ i. c.count_with-self.result ≤ i / 583) (sym z) y, (subst (λ i. 1166 ≤ i) (sym z) s.roomy, tt))))))
+    record {
+      within = c.put.ensures.within;
+      log = k.log;
+      fits = k.fits;
+      counted = k.counted;
+      bounded = subst (λ i. c.count_with-self.result ≤ i / 583) (sym z) y;
+      roomy = subst (λ i. 1166 ≤ i) (sym z) s.roomy;
+    }
 
 pub returns : goal.returns
 returns c =

@@ -32,7 +32,14 @@ invariant_of-self c =
     let k = remove-kept (contents c.squeeze.new.self) es c.args.key (s.count - 1) s.fits c.squeeze.ensures.after (sym c.holds.ensures ∙ c.if-not-holds.false) (ap (λ i. i - 1) s.counted) in
     let z : size c.squeeze.new.self ≡ size s.memory = c.squeeze.ensures.len in
     let y : s.count - 1 ≤ size s.memory / 583 = omega (arith, s.bounded) in
-    (c.squeeze.ensures.within, (k.log, (k.fits, (k.counted, (subst (λ i. s.count - 1 ≤ i / 583) (sym z) y, (subst (λ i. 1166 ≤ i) (sym z) s.roomy, tt))))))
+    record {
+      within = c.squeeze.ensures.within;
+      log = k.log;
+      fits = k.fits;
+      counted = k.counted;
+      bounded = subst (λ i. s.count - 1 ≤ i / 583) (sym z) y;
+      roomy = subst (λ i. 1166 ≤ i) (sym z) s.roomy;
+    }
 
 pub returns : goal.returns
 returns c =

@@ -24,22 +24,13 @@ invariant_of-self g c =
     let contents = q.places.contents.now in
     let same : length c.write.new.self.entries.now ≡ length entries = ap length c.write.ensures ∙ length-set entries _ _ in
     let grown = ring_in q.start q.len c.place_of-at.result entries c.write.new.self.entries.now e q.begins c.requires.0 c.place_of-at.ensures c.write.ensures in
-    let named : c.args.place < length (counts contents) = omega (arith, c.requires.1, counts-length contents) in (
-      omega (arith, q.some, bodies-length c.claim.new.self.contents.now contents c.claim.ensures.bodies),
-      (
-        omega (arith, q.roomy, same),
-        (
-          omega (arith, q.begins, same),
-          (
-            omega (arith, c.requires.0, same),
-            (
-              (λ p. ap (uses p) grown ∙ counted_in (held q) e (counts contents) (counts c.claim.new.self.contents.now) q.counted named c.claim.ensures.users p),
-              tt,
-            ),
-          ),
-        ),
-      ),
-    )
+    let named : c.args.place < length (counts contents) = omega (arith, c.requires.1, counts-length contents) in record {
+      some = omega (arith, q.some, bodies-length c.claim.new.self.contents.now contents c.claim.ensures.bodies);
+      roomy = omega (arith, q.roomy, same);
+      begins = omega (arith, q.begins, same);
+      within = omega (arith, c.requires.0, same);
+      counted = λ p. ap (uses p) grown ∙ counted_in (held q) e (counts contents) (counts c.claim.new.self.contents.now) q.counted named c.claim.ensures.users p;
+    }
 
 pub returns : goal.returns
 returns g c =

@@ -19,7 +19,13 @@ pub invariant_of-self : goal.invariant_of-self
 invariant_of-self g c =
     let q = c.args.self.now in
     let same = same-counts-length c.write.new.self.contents.now q.places.contents.now c.write.ensures.users in
-    (omega (arith, q.some, same), (q.roomy, (q.begins, (q.within, ((λ p. q.counted p ∙ sym (ap (λ ns. get_or ns p 0) c.write.ensures.users)), tt)))))
+    record {
+      some = omega (arith, q.some, same);
+      roomy = q.roomy;
+      begins = q.begins;
+      within = q.within;
+      counted = λ p. q.counted p ∙ sym (ap (λ ns. get_or ns p 0) c.write.ensures.users);
+    }
 
 pub loop-subscriber-init : goal.loop-subscriber-init
 loop-subscriber-init g c =

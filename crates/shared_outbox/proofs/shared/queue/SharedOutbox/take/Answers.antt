@@ -33,22 +33,13 @@ invariant_of-self g c =
     let p = c.place_of-self.result in
     let contents = q.places.contents.now in
     let some : 0 < q.len = omega (arith, c.if-self-eq0.false) in
-    let next = ring p (q.len - 1) q.row.entries.now in (
-      omega (arith, q.some, bodies-length c.release.new.self.contents.now contents c.release.ensures.bodies),
-      (
-        q.roomy,
-        (
-          omega (arith, c.place_of-self.ensures, place-within q.start 1 (capacity_of q) q.begins (omega (arith, q.roomy))),
-          (
-            omega (arith, q.within),
-            (
-              (λ i. counted_out next e (counts contents) (counted-first q e p some c.read-entry.ensures c.place_of-self.ensures) (counts c.release.new.self.contents.now) c.release.ensures.users i),
-              tt,
-            ),
-          ),
-        ),
-      ),
-    )
+    let next = ring p (q.len - 1) q.row.entries.now in record {
+      some = omega (arith, q.some, bodies-length c.release.new.self.contents.now contents c.release.ensures.bodies);
+      roomy = q.roomy;
+      begins = omega (arith, c.place_of-self.ensures, place-within q.start 1 (capacity_of q) q.begins (omega (arith, q.roomy)));
+      within = omega (arith, q.within);
+      counted = λ i. counted_out next e (counts contents) (counted-first q e p some c.read-entry.ensures c.place_of-self.ensures) (counts c.release.new.self.contents.now) c.release.ensures.users i;
+    }
 
 pub returns : goal.returns
 returns g c =
