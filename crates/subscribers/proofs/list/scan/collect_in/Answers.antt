@@ -5,15 +5,6 @@ use Rattle.subscribers.proofs.Topics.{at_below, at_more, at_more_yes, laid_more}
 use Rattle.subscribers.proofs.list.scan.collect_in.Goals as goal
 use Rattle.subscribers.proofs.list.scan.collect_in.Goals.{then-pair-handle, else-pair-handle}
 
-pub offset_bounds-work-n : goal.offset_bounds-work-n
-offset_bounds-work-n g c =
-    let more = at_below c.args.handle.0 c.args.pairs.now c.loop-pair.pair-index c.pair-item.result c.loop-pair-test.true c.pair-item.is c.if-pair-handle.true in
-    let within : c.loop-pair.n < length c.loop-pair.work = omega arith in
-    let long = c.loop-pair.long-work in
-    let w1 = c.work-1 in
-    let w2 = c.type_inv in
-    ?
-
 pub bounds-work-n : goal.bounds-work-n
 bounds-work-n g c =
     let more = at_below c.args.handle.0 c.args.pairs.now c.loop-pair.pair-index c.pair-item.result c.loop-pair-test.true c.pair-item.is c.if-pair-handle.true in
