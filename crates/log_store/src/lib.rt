@@ -1,10 +1,10 @@
 // A store that is a log in the caller's bytes.
+mod as_store;
 mod held;
 mod lend;
 mod memory;
 mod moves;
 mod sift;
-mod store;
 mod trailer;
 mod walk;
 

@@ -4,9 +4,11 @@ mod lines;
 mod options;
 mod text;
 
+use anyhow::anyhow;
 use lines::run;
 use log_store::with_log;
 use options::{Kind, parse};
+use std::process::ExitCode;
 use std::{env, fs, io};
 use store::{Store, Work};
 use table_store::TableStore;
@@ -53,7 +55,7 @@ impl Work for Sheet<'_> {
 fn in_log<'a>(rt: &'a HostRuntime, text: &'a str, bytes: &mut [u8]) -> anyhow::Result<()> {
     match with_log(bytes, Sheet { rt, text }) {
         Ok(outcome) => outcome,
-        Err(refusal) => Err(refusal_text(rt.alloc(), refusal)?.into()),
+        Err(refusal) => Err(anyhow!(refusal_text(rt.alloc(), refusal)?)),
     }
 }
 
@@ -76,12 +78,12 @@ fn process(rt: &HostRuntime) -> anyhow::Result<()> {
     }
 }
 
-fn main(rt: HostRuntime) -> anyhow::Result<()> {
+fn main(rt: HostRuntime) -> anyhow::Result<ExitCode> {
     match process(&rt) {
-        Ok(()) => Ok(()),
+        Ok(()) => Ok(ExitCode::SUCCESS),
         Err(e) => {
             eprintln!(rt; "sheet: {e}")?;
-            Err(e)
+            Ok(ExitCode::FAILURE)
         }
     }
 }

@@ -1,7 +1,7 @@
 // A store in a table of 64 places, inside the value itself.
+mod as_store;
 mod place;
 mod scan;
-mod store;
 mod table;
 
 pub use table::{PLACES, TableStore};

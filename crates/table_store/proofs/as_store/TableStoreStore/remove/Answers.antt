@@ -7,7 +7,7 @@ use Rattle.table_store.specs.Places.{map_of, tidy}
 use Rattle.table_store.proofs.Finds.{first_some}
 use Rattle.table_store.specs.Tables.{look_none, look_some}
 use Rattle.table_store.proofs.Writes.{map-remove, tidy-remove}
-use Rattle.table_store.proofs.store.TableStoreStore.remove.Goals as goal
+use Rattle.table_store.proofs.as_store.TableStoreStore.remove.Goals as goal
 
 pub invariant_of-self : goal.invariant_of-self
 invariant_of-self c =

@@ -6,7 +6,7 @@ use Rattle.log_store.specs.Logs.{meaning}
 use Rattle.log_store.specs.Memories.{contents, size}
 use Rattle.log_store.proofs.Meanings.{room-sifted}
 use Rattle.log_store.proofs.Stores.{entry-fits, full_is, place_for, put-kept}
-use Rattle.log_store.proofs.store.LogStoreStore.put.Goals as goal
+use Rattle.log_store.proofs.as_store.LogStoreStore.put.Goals as goal
 
 pub returns-then-no_place : goal.returns-then-no_place
 returns-then-no_place c =

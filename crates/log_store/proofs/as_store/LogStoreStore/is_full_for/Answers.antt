@@ -3,7 +3,7 @@ use Rattle.store.specs.Held.{proper}
 use Rattle.log_store.specs.Format.{entries}
 use Rattle.log_store.specs.Memories.{contents, size}
 use Rattle.log_store.proofs.Stores.{full_is}
-use Rattle.log_store.proofs.store.LogStoreStore.is_full_for.Goals as goal
+use Rattle.log_store.proofs.as_store.LogStoreStore.is_full_for.Goals as goal
 
 pub returns : goal.returns
 returns c =

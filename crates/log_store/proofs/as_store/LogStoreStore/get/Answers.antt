@@ -5,7 +5,7 @@ use Rattle.log_store.specs.Format.{entries}
 use Rattle.log_store.specs.Logs.{meaning}
 use Rattle.log_store.specs.Memories.{contents}
 use Rattle.log_store.proofs.Meanings.{look-meaning}
-use Rattle.log_store.proofs.store.LogStoreStore.get.Goals as goal
+use Rattle.log_store.proofs.as_store.LogStoreStore.get.Goals as goal
 
 pub returns : goal.returns
 returns c =

@@ -5,7 +5,7 @@ use Rattle.table_store.specs.declared.place.Place.{Place}
 use Rattle.table_store.specs.Places.{map_of, tidy}
 use Rattle.table_store.specs.Tables.{full_for}
 use Rattle.table_store.proofs.Writes.{map-put, tidy-put}
-use Rattle.table_store.proofs.store.TableStoreStore.put.Goals as goal
+use Rattle.table_store.proofs.as_store.TableStoreStore.put.Goals as goal
 
 pub invariant_of-self : goal.invariant_of-self
 invariant_of-self c =

@@ -7,7 +7,7 @@ use Rattle.log_store.specs.Logs.{meaning}
 use Rattle.log_store.specs.Memories.{contents, size}
 use Rattle.log_store.proofs.Meanings.{look-meaning, not_some}
 use Rattle.log_store.proofs.Stores.{held-counts, remove-kept}
-use Rattle.log_store.proofs.store.LogStoreStore.remove.Goals as goal
+use Rattle.log_store.proofs.as_store.LogStoreStore.remove.Goals as goal
 
 pub returns-then-not-holds : goal.returns-then-not-holds
 returns-then-not-holds c =
