@@ -1,7 +1,6 @@
 -- What a store's map says of topics, where so many handles and publication numbers are given.
-use Rattle.std.specs.Prelude.{ℕ, Bool, true, false, cond, not, ◌&&◌, ◌||◌, List, [], ◌∷◌, is_some, Some, None, Ok, Err, Option, Result, ◌==◌, nat_le}
+use Rattle.std.specs.Prelude.{ℕ, Bool, false, cond, not, ◌||◌, List, [], ◌∷◌, is_some, Some, None, Err, Option, Result, ◌==◌, nat_le}
 use Rattle.std.specs.Option.{ok_or}
-use Rattle.protocol.specs.Bytes.{alike}
 use Rattle.protocol.specs.declared.refusal.Refusal.{Refusal}
 use Rattle.protocol.specs.declared.refusal.Refusal.TheVariants.{NoSuchTopic, HalfCreated, ForeignValue}
 use Rattle.maps.specs.Maps.{Props}

@@ -1,5 +1,5 @@
 -- Lists of topics as links: each address in angle brackets, joined by commas (RFC 6690).
-use Rattle.std.specs.Prelude.{ℕ, Bool, cond, List, [], ◌∷◌, ◌++◌, map, codes, filter, ◌==◌}
+use Rattle.std.specs.Prelude.{ℕ, cond, List, [], ◌∷◌, ◌++◌, map, codes, filter, ◌==◌}
 use Rattle.protocol.specs.Addresses.{data_address, hex_digits}
 use Rattle.store.specs.Held.{Entry}
 use Rattle.catalog.specs.Catalog.{has_data}

@@ -1,1 +1,3 @@
+#![tactic(auto)]
+
 // What a store says of topics: one topic, its reading, all topics in turn, and the links of a list.

@@ -1,9 +1,9 @@
 -- Tokens as numbers: eight bytes with zeros behind the token's length.
-use Rattle.std.proofs.Common.{◌≡◌, ℕ, ◌+◌, ◌-◌, ◌*◌, ◌%◌, ◌^◌, ◌<◌, ◌≤◌, List, [], ◌∷◌, ◌++◌, length, take, drop, replicate, sym, refl, ap, ◌∙◌, arith, length-append}
+use Rattle.std.proofs.Common.{◌≡◌, ℕ, ◌+◌, ◌-◌, ◌*◌, ◌%◌, ◌^◌, ◌<◌, ◌≤◌, List, ◌++◌, length, take, drop, replicate, sym, refl, ap, ◌∙◌, arith, length-append}
 use native.Mathlib.Nat.{mul-mod_left}
 use Rattle.std.proofs.lemmas.List.{take-append-drop, length-take-le, length-replicate, take_at, drop-replicate}
 use Rattle.protocol.specs.Bytes.{be_bytes, be_number, AllBytes}
-use Rattle.protocol.proofs.Bytes.{length_be, number_be, drop_be, zeros_be, number_append, number_zeros, be_of_number, all_append, all_zeros}
+use Rattle.protocol.proofs.Bytes.{number_be, drop_be, zeros_be, number_append, number_zeros, be_of_number, all_append, all_zeros}
 
 -- a token's length
 pub length-token : (n bits : ℕ) → n ≤ 8 → length (take n (be_bytes 8 bits)) ≡ n

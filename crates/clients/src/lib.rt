@@ -1,4 +1,6 @@
 // Who subscribes: tokens, kinds of client, and subscribers.
+#![tactic(auto)]
+
 mod client;
 mod endpoint;
 mod session;

@@ -1,4 +1,6 @@
 // Bytes as hexadecimal text, two digits to a byte.
+#![tactic(auto)]
+
 ghost use Rattle.std.specs.Prelude.{◌≡◌, ℕ, ◌+◌, ◌*◌, ◌/◌, ◌%◌, ◌<◌, List, [], ◌∷◌, ◌++◌, IfSome, IfOk, vec_items, string_bytes, OnOk};
 ghost use Rattle.hexadecimal.specs.Digits.{decoded, digit_value, hex_text};
 ghost use Rattle.protocol.specs.Addresses.{hex_digit};

@@ -1,12 +1,12 @@
 -- What is read from the end of a log: the newest entry, whole and in its parts, and the log before it.
-use Rattle.std.proofs.Common.{◌≡◌, ℕ, zero, suc, ◌+◌, ◌-◌, ◌<◌, ◌≤◌, true, ◌&&◌, ltb, leb, List, [], ◌∷◌, ◌++◌, length, get_or, take, drop, sym, refl, ap, ◌∙◌, append_assoc, arith, length-append}
+use Rattle.std.proofs.Common.{◌≡◌, ℕ, zero, suc, ◌+◌, ◌-◌, ◌<◌, ◌≤◌, true, leb, List, [], ◌∷◌, ◌++◌, length, get_or, take, drop, sym, refl, ap, ◌∙◌, append_assoc, arith, length-append}
 use Rattle.protocol.proofs.Bytes.{number_be}
 use Rattle.protocol.specs.Bytes.{be_bytes, be_number}
 use Rattle.std.proofs.lemmas.List.{get_or-take, get_or-append-add, length-take-le, take_all, take_at, drop_at, take-append-drop}
-use Rattle.std.proofs.lemmas.Bool.{and_parts, ltb-true, leb-true, le-leb, lt-leb, cond-true, cond-false}
+use Rattle.std.proofs.lemmas.Bool.{le-leb, lt-leb, cond-true, cond-false}
 use Rattle.store.specs.declared.key.Key.{Key}
-use Rattle.store.specs.Held.{Entry, proper, value_limit}
-use Rattle.log_store.specs.Laws.{Fit, fit_parts, fit-first, fit-rest}
+use Rattle.store.specs.Held.{Entry}
+use Rattle.log_store.specs.Laws.{fit_parts, fit-first, fit-rest}
 use Rattle.log_store.specs.Format.{trailer, entry_bytes, encoded, key_at, len_at, entry_at, parsed, entries, fit, all_fit, Holds, Log}
 
 pub length-trailer : (k : Key) (n : ℕ) → length (trailer k n) ≡ 7

@@ -2,7 +2,7 @@
 use Rattle.std.specs.Prelude.{ℕ, ◌+◌, ◌≤◌, true, cond, List, [], ◌∷◌, length, take, nat_le}
 use Rattle.store.specs.Held.{Entry}
 use Rattle.log_store.specs.declared.memory.Memory.{Memory}
-use Rattle.log_store.specs.Format.{Log, encoded, entries, entry_bytes}
+use Rattle.log_store.specs.Format.{Log, encoded, entry_bytes}
 use Rattle.log_store.specs.Logs.{sifted}
 
 -- the log's bytes

@@ -1,4 +1,6 @@
 // A store that is a log in the caller's bytes.
+#![tactic(auto)]
+
 mod as_store;
 mod held;
 mod lend;

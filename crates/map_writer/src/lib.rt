@@ -1,4 +1,6 @@
 // Property maps of topics in their one written form.
+#![tactic(auto)]
+
 mod buffer;
 mod complete;
 mod entry;

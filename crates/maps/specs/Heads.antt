@@ -1,5 +1,5 @@
 -- Heads of data items (RFC 8949, section 3): a first byte, and up to eight bytes of argument behind it.
-use Rattle.std.specs.Prelude.{◌≡◌, ℕ, ◌+◌, ◌-◌, ◌*◌, ◌/◌, ◌%◌, ◌^◌, ◌<◌, cond, List, [], ◌∷◌, length, take, drop, Ok, Err, Result, nat_le, nat_lt}
+use Rattle.std.specs.Prelude.{ℕ, ◌+◌, ◌-◌, ◌*◌, ◌/◌, ◌%◌, ◌^◌, cond, List, [], ◌∷◌, length, take, drop, Ok, Err, Result, nat_le, nat_lt}
 use Rattle.protocol.specs.Bytes.{be_bytes, be_number}
 use Rattle.protocol.specs.declared.fault.Fault.{Fault}
 use Rattle.protocol.specs.declared.fault.Fault.TheVariants.{Ends, WrongType}

@@ -1,5 +1,5 @@
 -- What is true of reading and writing property maps, for every set of properties.
-use Rattle.std.specs.Prelude.{◌≡◌, ℕ, ◌^◌, ◌<◌, ◌≤◌, true, List, length, IfSome, Some, None, Ok, Err, Option}
+use Rattle.std.specs.Prelude.{◌≡◌, ℕ, ◌^◌, ◌<◌, ◌≤◌, true, List, length, IfSome, Ok, Option}
 use Rattle.maps.specs.Maps.{Props, read_map, written, in_range}
 
 -- a text whose length a head can hold, where there is one

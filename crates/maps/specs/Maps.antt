@@ -1,9 +1,8 @@
 -- Property maps: which properties the bytes of a map give, or which fault, and the one form in which properties are written.
-use Rattle.std.specs.Prelude.{◌≡◌, ℕ, zero, suc, ◌+◌, ◌<◌, ◌≤◌, Bool, true, false, cond, ◌&&◌, leb, List, [], ◌∷◌, ◌++◌, length, take, drop, is_some, Some, None, Ok, Err, Option, Result, ◌==◌, nat_le, nat_lt}
+use Rattle.std.specs.Prelude.{ℕ, zero, suc, ◌+◌, Bool, true, false, cond, ◌&&◌, leb, List, [], ◌∷◌, ◌++◌, length, take, drop, is_some, Some, None, Ok, Err, Option, Result, ◌==◌, nat_le, nat_lt}
 use Rattle.std.specs.Option.{option_map, unwrap_or}
 use Rattle.protocol.specs.declared.fault.Fault.{Fault}
 use Rattle.protocol.specs.declared.fault.Fault.TheVariants.{Ends, WrongType, UnknownKey, RepeatedKey, Trailing}
-use Rattle.maps.specs.declared.head.Head.{Head}
 use Rattle.maps.specs.declared.properties.Key.{Key}
 use Rattle.maps.specs.declared.properties.Key.TheVariants.{Name, DataAddress, ResourceType, ContentFormat, TopicType, Expiration, MaxSubscribers, ObserverCheck}
 use Rattle.maps.specs.declared.properties.Properties.{Properties}

@@ -1,4 +1,6 @@
 // Property maps of topics: read from and written to CBOR (RFC 8949).
+#![tactic(auto)]
+
 mod decode;
 mod head;
 mod properties;

@@ -1,6 +1,5 @@
 -- What a call and its outcome mean for topics and subscribers: the words in which the law is told.
-use Rattle.std.specs.Prelude.{ℕ, Bool, true, false, cond, ◌||◌, List, [], ◌∷◌, Some, None, Option}
-use Rattle.clients.specs.Subs.{Sub}
+use Rattle.std.specs.Prelude.{ℕ, Bool, true, false, cond, ◌||◌, List, Some, None, Option}
 use Rattle.outbox.specs.Notes.{Note}
 use Rattle.subscribers.specs.Standing.{Standing}
 use Rattle.model.specs.Calls.{Call, create, list, data_list, show, replace, patch, delete_topic, publish, read, subscribe, unsubscribe, delete_data, expire, take}

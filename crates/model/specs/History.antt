@@ -3,7 +3,7 @@ use Rattle.std.specs.Prelude.{◌≡◌, List, [], ◌∷◌}
 use Rattle.outbox.specs.Notes.{Note}
 use Rattle.store.specs.Held.{Sound}
 use Rattle.model.specs.Calls.{Call, Typed}
-use Rattle.model.specs.Outcomes.{Outcome, Step}
+use Rattle.model.specs.Outcomes.{Outcome}
 use Rattle.model.specs.State.{State, Parts, Room, untouched}
 use Rattle.model.specs.Steps.{step}
 

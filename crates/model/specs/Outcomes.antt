@@ -1,5 +1,5 @@
 -- What a call answers, and what it leaves.
-use Rattle.std.specs.Prelude.{ℕ, Bool, true, false, cond, ◌&&◌, List, [], ◌∷◌, ◌++◌, length, take, drop, Some, None, Ok, Err, Option, Result, ◌==◌}
+use Rattle.std.specs.Prelude.{ℕ, Bool, false, ◌&&◌, List, [], ◌++◌, length, take, drop, Ok, Err, Option, Result, ◌==◌}
 use Rattle.std.specs.Option.{option_map}
 use Rattle.protocol.specs.Codes.{class_of, detail_of}
 use Rattle.protocol.specs.declared.code.Code.{Code}

@@ -1,5 +1,5 @@
 -- What each call does, for all that it may meet: its refusals in their order, its response, its messages, and what is held then.
-use Rattle.std.specs.Prelude.{ℕ, ◌+◌, ◌-◌, ◌*◌, ◌/◌, Bool, true, false, cond, not, ◌&&◌, ◌||◌, List, [], ◌∷◌, ◌++◌, map, length, is_some, Some, None, Ok, Err, Option, Result, ◌==◌, nat_eq, nat_le, nat_lt}
+use Rattle.std.specs.Prelude.{ℕ, ◌+◌, ◌-◌, ◌*◌, ◌/◌, Bool, true, false, cond, not, ◌&&◌, ◌||◌, List, [], ◌∷◌, ◌++◌, length, Some, None, Ok, Err, Option, Result, ◌==◌, nat_eq, nat_le, nat_lt}
 use Rattle.std.specs.Option.{unwrap_or}
 use Rattle.protocol.specs.Addresses.{data_address}
 use Rattle.protocol.specs.declared.code.Code.{Code}
@@ -11,7 +11,7 @@ use Rattle.maps.specs.Maps.{Props, written, absent_or}
 use Rattle.outbox.specs.Answers.{take_answer, rest}
 use Rattle.outbox.specs.Notes.{Note}
 use Rattle.outbox.specs.declared.message.Content as messages
-use Rattle.store.specs.Held.{Entry, full, look, put, remove}
+use Rattle.store.specs.Held.{full, put, remove}
 use Rattle.subscribers.specs.Standing.{Standing, stands, subs_at, without, without_topic}
 use Rattle.topics.specs.Admission.{admitted}
 use Rattle.topics.specs.Amendment.{amended}
@@ -22,7 +22,7 @@ use Rattle.evictions.specs.Leaving.{leaving, without_each}
 use Rattle.catalog.specs.Catalog.{properties_key, data_key, topic_at, reading_at, has_data, topics, some_foreign, name_taken, first_due}
 use Rattle.catalog.specs.Links.{handles_in, topic_links, data_links}
 use Rattle.model.specs.Calls.{Call, create, list, data_list, show, replace, patch, delete_topic, publish, read, subscribe, unsubscribe, delete_data, expire, take}
-use Rattle.model.specs.Outcomes.{Outcome, Reply, Step, expired, refused, replied, settled, took, told_taken}
+use Rattle.model.specs.Outcomes.{Outcome, Step, expired, refused, replied, settled, took}
 use Rattle.model.specs.State.{State, Parts, Room}
 
 -- the largest handle, and the largest publication number

@@ -1,6 +1,6 @@
 -- Rings: one element more at the end, one less at the front.
-use Rattle.std.proofs.Common.{◌≡◌, ℕ, zero, suc, ◌+◌, ◌-◌, ◌<◌, ◌≤◌, cond, ltb, List, [], ◌∷◌, ◌++◌, length, get_or, take, drop, set, sym, refl, ap, ◌∙◌, inl, inr, add-one, arith}
-use Rattle.std.proofs.lemmas.List.{append_assoc, append-nil, take-append-le, take_more, take_more_set, take-take, take_all, take-set-le, drop_more, drop_all, drop-set-add, drop-set-lt, set-append_left, set-append_right, length-append, length-take, length-drop, length-take-le}
+use Rattle.std.proofs.Common.{◌≡◌, ℕ, zero, suc, ◌+◌, ◌-◌, ◌<◌, ◌≤◌, ltb, List, [], ◌∷◌, ◌++◌, length, get_or, take, drop, set, sym, refl, ap, ◌∙◌, inl, inr, add-one, arith}
+use Rattle.std.proofs.lemmas.List.{append_assoc, append-nil, take-append-le, take_more, take_more_set, take-take, take-set-le, drop_more, drop_all, drop-set-add, drop-set-lt, set-append_left, set-append_right, length-append, length-take, length-drop, length-take-le}
 use Rattle.std.proofs.lemmas.Bool.{cases_lt, cond-true, cond-false, lt-ltb, le-ltb}
 use Rattle.outbox.specs.Rings.{around, ring, place}
 

@@ -1,12 +1,12 @@
 -- What a take gives, from the oldest note and the copy of its payload.
-use Rattle.std.proofs.Common.{◌≡◌, ℕ, ◌≤◌, true, cond, leb, List, ◌∷◌, ◌++◌, length, take, drop, Some, Ok, Err, Option, Result, sym, refl, ap, ◌∙◌, arith}
+use Rattle.std.proofs.Common.{◌≡◌, ℕ, ◌≤◌, cond, List, ◌∷◌, ◌++◌, length, take, drop, Some, Ok, Err, sym, refl, ap, ◌∙◌, arith}
 use Rattle.std.proofs.lemmas.List.{take_all, take_at, length-take-le}
 use Rattle.std.proofs.lemmas.Bool.{le-leb}
 use Rattle.protocol.specs.declared.refusal.Refusal.TheVariants.{BadBatch}
 use Rattle.clients.specs.Subs.{sub_of}
 use Rattle.outbox.specs.declared.message.Message.{Message}
 use Rattle.outbox.specs.declared.payload.Payload.{Payload}
-use Rattle.outbox.specs.Answers.{first, first_len, rest, laid, said, said_len, take_answer, take_len, take_buffer, Gives}
+use Rattle.outbox.specs.Answers.{laid, said, take_answer, take_len, take_buffer, Gives}
 use Rattle.outbox.specs.Notes.{Note}
 use Rattle.outbox.specs.Payloads.{bytes_of}
 

@@ -1,4 +1,6 @@
 // What an outbox is: a queue of messages for subscribers, filled by whole batches, for any kind of memory behind it.
+#![tactic(auto)]
+
 mod limits;
 mod message;
 mod outbox;

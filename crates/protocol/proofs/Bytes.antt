@@ -1,6 +1,6 @@
 -- Laws of strings of bytes and of numbers as bytes, most significant byte first.
 use Rattle.std.proofs.Common.{◌≡◌, ℕ, zero, suc, ◌+◌, ◌-◌, ◌*◌, ◌/◌, ◌%◌, ◌^◌, ◌<◌, ◌≤◌, List, [], ◌∷◌, ◌++◌, length, get_or, drop, replicate, Decides, sym, refl, ap, ◌∙◌, mul-le-mul_right, mod-lt, mod-eq_of_lt, mul_assoc, add-mul, div-add-mod', div-one, arith, length-append, length-drop, pow-add}
-use native.Mathlib.Nat.{pow-succ', mul-add-div_right, mul-add-mod_self_right, div-eq_of_lt, mod-one, mul-mod_left, zero-div}
+use native.Mathlib.Nat.{pow-succ', mul-add-div_right, div-eq_of_lt, mod-one, zero-div}
 use lib.Arith.{mod-mul}
 use Rattle.std.proofs.lemmas.List.{at_drop_more, at_drop_all}
 use Rattle.std.proofs.lemmas.Bool.Decides.{Decides-and, Decides-eqb, Decides-like}

@@ -1,4 +1,6 @@
 // The vocabulary of the broker: names of topics, response codes, refusals and faults of reading.
+#![tactic(auto)]
+
 mod code;
 mod fault;
 mod names;

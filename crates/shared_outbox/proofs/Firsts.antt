@@ -1,5 +1,5 @@
 -- The oldest entry of a shared outbox, and those behind it.
-use Rattle.std.proofs.Common.{◌≡◌, ℕ, ◌-◌, ◌<◌, ◌≤◌, List, ◌∷◌, length, get_or, sym, ap, ◌∙◌, arith}
+use Rattle.std.proofs.Common.{◌≡◌, ℕ, ◌-◌, ◌<◌, ◌∷◌, get_or, sym, ap, ◌∙◌, arith}
 use Rattle.outbox.proofs.Rings.{ring_out}
 use Rattle.outbox.specs.Rings.{place, ring}
 use Rattle.shared_outbox.specs.declared.entry.Entry.{Entry}

@@ -1,11 +1,9 @@
 -- What becomes of a map of the sheet: a topic under its handle in the store, or a refusal that leaves the store.
 use Rattle.std.specs.Prelude.{ℕ, cond, List, is_ok, Ok, Err, Result}
-use Rattle.protocol.specs.Addresses.{data_address}
 use Rattle.protocol.specs.declared.refusal.Refusal.{Refusal}
 use Rattle.maps.specs.Maps.{Props, written}
 use Rattle.store.specs.Held.{Entry, put, put_answer}
 use Rattle.store.specs.declared.key.Key.{Key}
-use Rattle.topics.specs.Admission.{admitted}
 
 -- the key of a topic's properties
 abbrev pub properties_key : ℕ → Key

@@ -1,4 +1,6 @@
 // Reads an installer's sheet of property maps, keeps the good ones in a store, and prints what became of each.
+#![tactic(auto)]
+
 mod keeping;
 mod lines;
 mod options;

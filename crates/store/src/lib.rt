@@ -1,4 +1,6 @@
 // What a store is: an ordered map from keys to values, for any kind of memory behind it.
+#![tactic(auto)]
+
 mod key;
 mod laws;
 mod scan;

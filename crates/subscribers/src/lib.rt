@@ -1,4 +1,6 @@
 // The subscriber list, and who leaves a topic that has too many subscribers.
+#![tactic(auto)]
+
 mod eviction;
 mod joined;
 mod list;

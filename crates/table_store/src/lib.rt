@@ -1,4 +1,6 @@
 // A store in a table of 64 places, inside the value itself.
+#![tactic(auto)]
+
 mod as_store;
 mod place;
 mod scan;

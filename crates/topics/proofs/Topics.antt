@@ -1,5 +1,5 @@
 -- Properties of a new topic are those of a topic: in range, with an address and a resource type of fixed length.
-use Rattle.std.proofs.Common.{◌≡◌, ℕ, ◌≤◌, Bool, true, false, cond, not, ◌&&◌, ltb, leb, List, length, is_some, IfSome, Some, None, codes, Option, unwrap_or, sym, refl, ap, ◌∙◌}
+use Rattle.std.proofs.Common.{◌≡◌, ℕ, Bool, true, not, ◌&&◌, leb, List, length, is_some, IfSome, Some, None, codes, Option, unwrap_or, refl, ap}
 use Rattle.std.proofs.lemmas.Bool.{and_parts, and_from}
 use Rattle.protocol.proofs.Bytes.{alike_decides}
 use Rattle.map_writer.proofs.Largest.{ranges}

@@ -1,5 +1,5 @@
 -- Which maps make a topic, and with which properties.
-use Rattle.std.specs.Prelude.{ℕ, Bool, true, false, cond, not, ◌&&◌, List, length, is_some, Some, None, Ok, Err, codes, Option, Result, nat_le}
+use Rattle.std.specs.Prelude.{ℕ, Bool, false, cond, not, ◌&&◌, List, length, is_some, Some, None, Ok, Err, codes, Option, Result, nat_le}
 use Rattle.protocol.specs.Bytes.{alike}
 use Rattle.protocol.specs.declared.fault.Fault.{Fault}
 use Rattle.protocol.specs.declared.refusal.Refusal.{Refusal}

@@ -1,5 +1,5 @@
 -- How a client's map changes a topic: which maps do, and what the topic's properties are then.
-use Rattle.std.specs.Prelude.{ℕ, Bool, cond, ◌&&◌, List, length, Some, None, Ok, Err, Option, Result, nat_le}
+use Rattle.std.specs.Prelude.{ℕ, Bool, cond, ◌&&◌, List, length, Ok, Err, Option, Result, nat_le}
 use Rattle.std.specs.Option.{option_or}
 use Rattle.protocol.specs.declared.fault.Fault.{Fault}
 use Rattle.protocol.specs.declared.refusal.Refusal.{Refusal}

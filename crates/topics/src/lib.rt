@@ -1,4 +1,6 @@
 // Topics: from the map that a client sends to the properties that a topic has, and back from a stored value.
+#![tactic(auto)]
+
 mod admission;
 mod amendment;
 

@@ -1,4 +1,6 @@
 // Runs the examples of RFC 8949, Appendix A and F, through the head reader and the map reader, a line for each.
+#![tactic(auto)]
+
 ghost use Rattle.std.specs.Prelude.{◌≡◌, ◌∷◌, IfOk};
 
 mod shown;

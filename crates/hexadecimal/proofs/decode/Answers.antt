@@ -1,7 +1,5 @@
-use Rattle.std.proofs.Common.{◌≡◌, ℕ, ◌+◌, ◌*◌, ◌<◌, true, ◌⊎◌, [], ◌∷◌, ◌++◌, get_or, drop, is_some, Some, None, vec_items, Option, sym, refl, ap, ◌∙◌, subst, arith, rules}
-use Rattle.hexadecimal.specs.Digits.{decoded, decoded_from, digit_value}
+use Rattle.std.proofs.Common.{◌≡◌, ℕ, ◌+◌, ◌*◌, [], ◌∷◌, ◌++◌, get_or, Some, None, vec_items, Option, sym, ap, ◌∙◌, subst}
 use Rattle.hexadecimal.proofs.Texts.{Goes, space, no_first, first, no_second, second, spaceless, starts, goes_at, half, done}
-use Rattle.std.specs.Option.{option_map}
 use Rattle.hexadecimal.proofs.decode.Goals as goal
 use Rattle.hexadecimal.proofs.decode.Goals.{in-None-Some, in-None-None+else-c-ne32, in-Some-Some+in_ok-push-in-Some-Some}
 

@@ -1,4 +1,4 @@
-use Rattle.std.proofs.Common.{◌++◌, refl, ap, ◌∙◌}
+use Rattle.std.proofs.Common.{◌++◌, ap}
 use Rattle.hexadecimal.specs.Digits.{hex_text}
 use Rattle.hexadecimal.proofs.Texts.{wrote, wrote_all}
 use Rattle.hexadecimal.proofs.encode.Goals as goal

@@ -1,4 +1,4 @@
-use Rattle.std.proofs.Common.{◌≡◌, ◌++◌, length, drop, sym, refl, ap, ◌∙◌}
+use Rattle.std.proofs.Common.{◌++◌, length, drop, sym, ap, ◌∙◌}
 use Rattle.outbox.proofs.Takes.{bytes-short, whole_buffer, whole-len}
 use Rattle.outbox.specs.Payloads.{bytes_of}
 use Rattle.shared_outbox.proofs.Contents.{body_is}

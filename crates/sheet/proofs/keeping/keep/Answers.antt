@@ -1,4 +1,4 @@
-use Rattle.std.proofs.Common.{◌≡◌, ap, ◌∙◌}
+use Rattle.std.proofs.Common.{ap, ◌∙◌}
 use Rattle.topics.specs.Admission.{admitted}
 use Rattle.sheet.specs.Keeping.{answer_to, held_after, properties_key}
 use Rattle.sheet.proofs.keeping.keep.Goals as goal

@@ -1,9 +1,8 @@
-use Rattle.std.proofs.Common.{◌≡◌, ℕ, ◌≤◌, length, Err, sym, refl, ap, ◌∙◌, arith, rules}
+use Rattle.std.proofs.Common.{ℕ, ◌≤◌, Err, ap, ◌∙◌, arith, rules}
 use lib.ListN.{length-replicate}
 use Rattle.std.proofs.lemmas.Result.{err_from_is_err_and}
-use Rattle.maps.specs.Maps.{meant, written}
+use Rattle.maps.specs.Maps.{meant}
 use Rattle.map_writer.proofs.Largest.{largest}
-use Rattle.topics.specs.Admission.{admitted}
 use Rattle.sheet.specs.Keeping.{properties_key}
 use Rattle.sheet.proofs.Keeps.{never_none, len_is, value-is, refused, stored}
 use Rattle.sheet.proofs.keeping.keep_at.Goals as goal

@@ -1,8 +1,8 @@
-use Rattle.std.proofs.Common.{◌≡◌, ◌≤◌, length, Ok, Err, sym, refl, ap, ◌∙◌, subst, arith, rules}
+use Rattle.std.proofs.Common.{◌≤◌, length, Ok, Err, sym, ap, ◌∙◌, subst, arith}
 use Rattle.maps.specs.Laws.{Topical}
-use Rattle.maps.specs.Maps.{meant, with_defaults, with_data_address, in_range}
+use Rattle.maps.specs.Maps.{meant, with_defaults, in_range}
 use Rattle.std.proofs.lemmas.Result.{err_from_is_err_and, IfOk-from_err}
-use Rattle.topics.specs.Admission.{told, fit}
+use Rattle.topics.specs.Admission.{told}
 use Rattle.topics.proofs.Judging.{ranged_out, fitting, passed, failed}
 use Rattle.topics.proofs.Topics.{topical}
 use Rattle.topics.proofs.admission.new_topic.Goals as goal

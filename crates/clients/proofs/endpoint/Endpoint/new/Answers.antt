@@ -1,4 +1,4 @@
-use Rattle.std.proofs.Common.{◌≡◌, ℕ, length, sym, refl, ap, ◌∙◌, rules}
+use Rattle.std.proofs.Common.{◌≡◌, length, sym, refl, ap, ◌∙◌, rules}
 use Rattle.protocol.specs.Bytes.{be_bytes, be_number}
 use Rattle.protocol.proofs.Bytes.{number16, be_of_number, all_from_places}
 use Rattle.clients.proofs.endpoint.Endpoint.new.Goals as goal

@@ -1,4 +1,4 @@
-use Rattle.std.proofs.Common.{◌≡◌, ℕ, ◌-◌, ◌++◌, length, take, replicate, sym, refl, ap, ◌∙◌, rules}
+use Rattle.std.proofs.Common.{◌-◌, ◌++◌, take, replicate, sym, ap, ◌∙◌}
 use Rattle.protocol.specs.Bytes.{be_bytes}
 use Rattle.protocol.proofs.Bytes.{be8}
 use Rattle.clients.proofs.Tokens.{length-token, whole}

@@ -1,4 +1,4 @@
-use Rattle.std.proofs.Common.{◌≡◌, ℕ, ◌-◌, ◌%◌, ◌^◌, ◌≤◌, ◌++◌, length, take, replicate, sym, refl, ap, ◌∙◌, arith, rules}
+use Rattle.std.proofs.Common.{◌≡◌, ◌-◌, ◌%◌, ◌^◌, ◌≤◌, ◌++◌, length, take, replicate, ap, ◌∙◌, arith, rules}
 use Rattle.protocol.specs.Bytes.{be_bytes, be_number}
 use Rattle.protocol.proofs.Bytes.{number8, all_from_places}
 use Rattle.std.proofs.lemmas.Bool.Decides.{nat_tests}

@@ -1,5 +1,5 @@
-use Rattle.std.proofs.Common.{◌≡◌, ℕ, ◌-◌, ◌%◌, ◌^◌, ◌<◌, true, eqb, length, take, sym, refl, ap, ◌∙◌, subst, arith, rules, eq-eqb}
-use Rattle.std.proofs.lemmas.Bool.Decides.{nat_tests, eqb_tells}
+use Rattle.std.proofs.Common.{◌≡◌, ◌-◌, ◌%◌, ◌^◌, ◌<◌, length, take, sym, ap, ◌∙◌, arith, rules, eq-eqb}
+use Rattle.std.proofs.lemmas.Bool.Decides.{nat_tests}
 use Rattle.protocol.specs.Bytes.{be_bytes}
 use Rattle.clients.proofs.Tokens.{length-token, same_bits}
 use Rattle.clients.proofs.token.Token.same.Goals as goal

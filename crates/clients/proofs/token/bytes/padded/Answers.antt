@@ -1,4 +1,4 @@
-use Rattle.std.proofs.Common.{◌-◌, length, arith, rules}
+use Rattle.std.proofs.Common.{◌-◌, length, arith}
 use Rattle.clients.proofs.Tokens.{over_zeros}
 use Rattle.clients.proofs.token.bytes.padded.Goals as goal
 

@@ -1,4 +1,4 @@
-use Rattle.std.proofs.Common.{◌≡◌, ◌-◌, min, length, take, ap, ◌∙◌, arith}
+use Rattle.std.proofs.Common.{◌-◌, take, ap, ◌∙◌, arith}
 use Rattle.outbox.proofs.Payloads.{written, written-length}
 use Rattle.outbox.proofs.payload.Payload.set.Goals as goal
 

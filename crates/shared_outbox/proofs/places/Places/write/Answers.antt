@@ -1,4 +1,4 @@
-use Rattle.std.proofs.Common.{◌≡◌, set, refl, ap, ◌∙◌}
+use Rattle.std.proofs.Common.{set, refl, ap, ◌∙◌}
 use Rattle.std.proofs.lemmas.List.{map-set, take_all}
 use Rattle.shared_outbox.proofs.Contents.{map_set_same}
 use Rattle.shared_outbox.specs.declared.place.Place.{Place}

@@ -1,4 +1,4 @@
-use Rattle.std.proofs.Common.{◌≡◌, [], ◌∷◌, ◌++◌, map, length, refl, ap, ◌∙◌, length-set}
+use Rattle.std.proofs.Common.{[], ◌∷◌, ◌++◌, map, length, refl, ap, ◌∙◌, length-set}
 use Rattle.std.proofs.lemmas.List.{map_push}
 use Rattle.outbox.proofs.Rings.{ring_in}
 use Rattle.slot_outbox.specs.Held.{held}

@@ -1,4 +1,4 @@
-use Rattle.std.proofs.Common.{◌≡◌, ◌++◌, length, refl, ap, ◌∙◌, arith}
+use Rattle.std.proofs.Common.{◌++◌, length, refl, ◌∙◌, arith}
 use Rattle.std.proofs.lemmas.Bool.{true≢false}
 use Rattle.outbox.proofs.Posts.{answer_bad, answer_full, answer_ok, posted_all, posted_more, proper-short}
 use Rattle.outbox.specs.Notes.{notes_of}
