@@ -1,4 +1,5 @@
 pub mod Choice
 pub mod Held
+pub mod Laws
 pub mod Pairs
 pub mod Standing

@@ -2,7 +2,7 @@
 ghost use Rattle.std.specs.Prelude.{◌≡◌, ℕ, ◌<◌, List, map, length, Option, MatchOption};
 ghost use Rattle.clients.specs.Subs.{Sub, sub_of};
 ghost use Rattle.subscribers.specs.Choice.{Names, newest, oldest};
-ghost use Rattle.std.proofs.Common.{rules};
+ghost use Rattle.subscribers.specs.Laws.{newest_named, oldest_named};
 
 use clients::{Client, Subscriber};
 
@@ -25,7 +25,7 @@ pub struct Newest;
 impl<C: Client> Eviction<C> for Newest {
     ghost choice = { λ _ l. newest l };
 
-    ghost names = { Prim.search rules };
+    ghost names = { λ _ l. newest_named l };
 
     fn choose(&self, subscribers: &[Subscriber<C>]) -> Option<usize> {
         if subscribers.len() == 0 {
@@ -43,7 +43,7 @@ pub struct Oldest;
 impl<C: Client> Eviction<C> for Oldest {
     ghost choice = { λ _ l. oldest l };
 
-    ghost names = { Prim.search rules };
+    ghost names = { λ _ l. oldest_named l };
 
     fn choose(&self, subscribers: &[Subscriber<C>]) -> Option<usize> {
         if subscribers.len() == 0 {

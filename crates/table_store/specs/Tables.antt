@@ -119,3 +119,7 @@ around ps i d l = sym (set-get_or ps i d) ∙ set_split ps i (slice_index_or ps 
 pub some_holds-append : (xs ys : List Place) (k : Key) → some_holds (xs ++ ys) k ≡ (some_holds xs k || some_holds ys k)
 some_holds-append [] ys k = refl
 some_holds-append (x ∷ xs) ys k = let ih = some_holds-append xs ys k in grind arith
+
+-- a table has room for two keys
+pub two_places : 2 ≤ 64
+two_places = omega arith

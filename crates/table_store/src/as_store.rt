@@ -1,8 +1,8 @@
 // The table store keeps the contracts of a store.
 ghost use Rattle.table_store.specs.Table.{table_capacity, table_held};
 ghost use Rattle.std.specs.Prelude.{◌≡◌, ◌≤◌, [], length};
-ghost use Rattle.std.proofs.Common.{subst, rules, arith};
-ghost use Rattle.table_store.specs.Tables.{sound-map, length-map_le};
+ghost use Rattle.std.proofs.Common.{subst};
+ghost use Rattle.table_store.specs.Tables.{sound-map, length-map_le, two_places};
 ghost use Rattle.table_store.specs.Places.{map_of};
 
 use crate::place::Place;
@@ -29,7 +29,7 @@ impl Store for TableStore {
 
     ghost sound = { λ s. sound-map s.places s.tidy };
 
-    ghost roomy = { first_of (Prim.search rules, Prim.grind (arith, Self.row.coded.inj)) };
+    ghost roomy = { λ _. two_places };
 
     ghost within = { λ s. subst (λ n. length (map_of s.places) ≤ n) s.count (length-map_le s.places s.tidy) };
 
