@@ -1,4 +1,6 @@
 // Tests of tokens and clients at their edges.
+#![tactic(auto)]
+
 #[cfg(test)]
 mod tests {
     use clients::{Client, Endpoint, Session, Token};
