@@ -1,4 +1,6 @@
 // Tests of the reader of property maps: heads, values, faults and ranges.
+#![tactic(auto)]
+
 #[cfg(test)]
 mod faults;
 #[cfg(test)]

@@ -1,4 +1,6 @@
 // Tests of the outboxes: one set of checks for any outbox, run on each that ships.
+#![tactic(auto)]
+
 #[cfg(test)]
 mod checks;
 #[cfg(test)]
