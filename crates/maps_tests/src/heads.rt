@@ -51,9 +51,9 @@ fn whole_heads(rt: HostRuntime) -> Result<(), Fail> {
     for (i, row) in WHOLE.iter().enumerate() {
         let mut reader = Reader::new(row.0);
         let head = reader.head()?;
-        assert_eq!(rt; head.major, row.1, "{}", i);
-        assert_eq!(rt; head.argument, row.2, "{}", i);
-        assert!(rt; reader.is_done(), "{}", i);
+        assert_eq!(rt; head.major, row.1, "{i}");
+        assert_eq!(rt; head.argument, row.2, "{i}");
+        assert!(rt; reader.is_done(), "{i}");
     }
     Ok(())
 }
@@ -88,10 +88,10 @@ const FAULTY: [Faulty; 18] = [
 fn faulty_heads(rt: HostRuntime) -> Result<(), Fail> {
     for (i, row) in FAULTY.iter().enumerate() {
         let mut reader = Reader::new(row.0);
-        assert_eq!(rt; reader.head().err(), Some(row.1), "{}", i);
-        assert_eq!(rt; reader.head().err(), Some(row.1), "{}", i);
-        assert_eq!(rt; reader.text(row.0.len() as u64)?, row.0, "{}", i);
-        assert!(rt; reader.is_done(), "{}", i);
+        assert_eq!(rt; reader.head().err(), Some(row.1), "{i}");
+        assert_eq!(rt; reader.head().err(), Some(row.1), "{i}");
+        assert_eq!(rt; reader.text(row.0.len() as u64)?, row.0, "{i}");
+        assert!(rt; reader.is_done(), "{i}");
     }
     Ok(())
 }
@@ -101,13 +101,13 @@ fn faulty_heads(rt: HostRuntime) -> Result<(), Fail> {
 fn in_turn(rt: HostRuntime) -> Result<(), Fail> {
     let mut reader = Reader::new(b"\x62ab\x1a\x00\x00\x00\x05c");
     assert_eq!(rt; reader.head()?.argument, 2);
-    assert_eq!(rt; reader.text(2)?, b"ab");
+    assert_eq!(rt; reader.text(2)?, b"ab".as_slice());
     assert_eq!(rt; reader.head()?.argument, 5);
     assert_eq!(rt; reader.text(2).err(), Some(Fault::Ends));
     assert_eq!(rt; reader.text(18446744073709551615).err(), Some(Fault::Ends));
     assert!(rt; !reader.is_done());
-    assert_eq!(rt; reader.text(0)?, b"");
-    assert_eq!(rt; reader.text(1)?, b"c");
+    assert_eq!(rt; reader.text(0)?, b"".as_slice());
+    assert_eq!(rt; reader.text(1)?, b"c".as_slice());
     assert!(rt; reader.is_done());
     Ok(())
 }

@@ -28,44 +28,47 @@ fn fits(properties: Properties<'_>) -> bool {
 }
 
 // The number in each place, with nothing else given.
-fn check_number(rt: &impl Abort, row: Number, nothing: Properties<'_>) -> Result<(), Fail> {
+fn check_number(rt: &impl Abort, i: usize, row: Number, nothing: Properties<'_>) {
     let number = Some(row.0);
     assert_eq!(rt;
         fits(Properties {
             content_format: number,
             ..nothing
         }),
-        row.1
+        row.1,
+        "{i}"
     );
     assert_eq!(rt;
         fits(Properties {
             max_subscribers: number,
             ..nothing
         }),
-        row.2
+        row.2,
+        "{i}"
     );
     assert_eq!(rt;
         fits(Properties {
             expiration: number,
             ..nothing
         }),
-        row.3
+        row.3,
+        "{i}"
     );
     assert_eq!(rt;
         fits(Properties {
             observer_check: number,
             ..nothing
         }),
-        row.3
+        row.3,
+        "{i}"
     );
-    Ok(())
 }
 
 #[test]
 fn numbers(rt: HostRuntime) -> Result<(), Fail> {
     let nothing = read(EMPTY)?;
     for (i, row) in NUMBERS.iter().enumerate() {
-        check_number(&rt, *row, nothing).note(i)?;
+        check_number(&rt, i, *row, nothing);
     }
     Ok(())
 }

@@ -15,19 +15,36 @@ const NOTHING: Properties<'static> = Properties {
     observer_check: None,
 };
 
-fn check_same(rt: &impl Abort, got: Properties<'_>, wanted: Properties<'_>) {
-    assert_eq!(rt; got.name, wanted.name, "name");
-    assert_eq!(rt; got.data_address, wanted.data_address, "data address");
-    assert_eq!(rt; got.resource_type, wanted.resource_type, "resource type");
-    assert_eq!(rt; got.content_format, wanted.content_format, "content format");
-    assert_eq!(rt; got.topic_type, wanted.topic_type, "topic type");
-    assert_eq!(rt; got.expiration, wanted.expiration, "expiration");
+// The properties got from the bytes of a row are those that are wanted.
+fn check_same(rt: &impl Abort, row: usize, got: Properties<'_>, wanted: Properties<'_>) {
+    assert_eq!(rt; got.name, wanted.name, "name of {row}");
+    assert_eq!(rt;
+        got.data_address,
+        wanted.data_address,
+        "data address of {row}"
+    );
+    assert_eq!(rt;
+        got.resource_type,
+        wanted.resource_type,
+        "resource type of {row}"
+    );
+    assert_eq!(rt;
+        got.content_format,
+        wanted.content_format,
+        "content format of {row}"
+    );
+    assert_eq!(rt; got.topic_type, wanted.topic_type, "topic type of {row}");
+    assert_eq!(rt; got.expiration, wanted.expiration, "expiration of {row}");
     assert_eq!(rt;
         got.max_subscribers,
         wanted.max_subscribers,
-        "max subscribers"
+        "max subscribers of {row}"
     );
-    assert_eq!(rt; got.observer_check, wanted.observer_check, "observer check");
+    assert_eq!(rt;
+        got.observer_check,
+        wanted.observer_check,
+        "observer check of {row}"
+    );
 }
 
 // Empty maps, with every width of the count.
@@ -41,8 +58,8 @@ const EMPTY: [&[u8]; 5] = [
 
 #[test]
 fn empty(rt: HostRuntime) -> Result<(), Fail> {
-    for bytes in &EMPTY {
-        check_same(&rt, read(bytes)?, NOTHING);
+    for (i, bytes) in EMPTY.iter().enumerate() {
+        check_same(&rt, i, read(bytes)?, NOTHING);
     }
     Ok(())
 }
@@ -66,8 +83,8 @@ fn keys(rt: HostRuntime) -> Result<(), Fail> {
         max_subscribers: Some(9),
         ..NOTHING
     };
-    for bytes in &KEYS {
-        check_same(&rt, read(bytes)?, wanted);
+    for (i, bytes) in KEYS.iter().enumerate() {
+        check_same(&rt, i, read(bytes)?, wanted);
     }
     Ok(())
 }
@@ -87,8 +104,8 @@ fn tags(rt: HostRuntime) -> Result<(), Fail> {
         expiration: Some(7),
         ..NOTHING
     };
-    for bytes in &TAGS {
-        check_same(&rt, read(bytes)?, wanted);
+    for (i, bytes) in TAGS.iter().enumerate() {
+        check_same(&rt, i, read(bytes)?, wanted);
     }
     Ok(())
 }
@@ -122,8 +139,8 @@ const NUMBERS: [Number; 18] = [
 ];
 
 // A map of one key and its value, which has at most 40 bytes.
-fn with_key(rt: &impl Abort, start: &[u8], value: &[u8], room: &mut [u8; 48]) -> usize {
-    assert!(rt; start.len() <= 4 && value.len() <= 40);
+fn with_key(rt: &impl Abort, row: usize, start: &[u8], value: &[u8], room: &mut [u8; 48]) -> usize {
+    assert!(rt; start.len() <= 4 && value.len() <= 40, "{row}");
     let n = start.len() + value.len();
     room[0..start.len()].copy_from_slice(start);
     room[start.len()..n].copy_from_slice(value);
@@ -131,65 +148,61 @@ fn with_key(rt: &impl Abort, start: &[u8], value: &[u8], room: &mut [u8; 48]) ->
 }
 
 // A map of this start and value gives the properties that are wanted.
-fn check_given(
-    rt: &impl Abort,
-    start: &[u8],
-    value: &[u8],
-    wanted: Properties<'_>,
-) -> Result<(), Fail> {
+fn check_given(rt: &impl Abort, row: usize, start: &[u8], value: &[u8], wanted: Properties<'_>) {
     let mut room = [0; 48];
-    let n = with_key(rt, start, value, &mut room);
-    assert!(rt; n <= 48);
-    check_same(rt, read(&room[0..n])?, wanted);
-    Ok(())
+    let n = with_key(rt, row, start, value, &mut room);
+    assert!(rt; n <= 48, "{row}");
+    match read(&room[0..n]) {
+        Ok(got) => check_same(rt, row, got, wanted),
+        Err(fault) => panic!(rt; "{fault:?} at {row}"),
+    }
 }
 
 #[test]
-fn numbers(rt: HostRuntime) -> Result<(), Fail> {
+fn numbers(rt: HostRuntime) {
     for (i, row) in NUMBERS.iter().enumerate() {
         let number = Some(row.1);
         check_given(
             &rt,
+            i,
             b"\xa1\x03",
             row.0,
             Properties {
                 content_format: number,
                 ..NOTHING
             },
-        )
-        .note(i)?;
+        );
         check_given(
             &rt,
+            i,
             b"\xa1\x05\xc1",
             row.0,
             Properties {
                 expiration: number,
                 ..NOTHING
             },
-        )
-        .note(i)?;
+        );
         check_given(
             &rt,
+            i,
             b"\xa1\x06",
             row.0,
             Properties {
                 max_subscribers: number,
                 ..NOTHING
             },
-        )
-        .note(i)?;
+        );
         check_given(
             &rt,
+            i,
             b"\xa1\x07",
             row.0,
             Properties {
                 observer_check: number,
                 ..NOTHING
             },
-        )
-        .note(i)?;
+        );
     }
-    Ok(())
 }
 
 // A text's head and bytes, and its bytes alone; they need not be UTF-8.
@@ -220,51 +233,50 @@ const TEXTS: [Text; 11] = [
 ];
 
 #[test]
-fn texts(rt: HostRuntime) -> Result<(), Fail> {
+fn texts(rt: HostRuntime) {
     for (i, row) in TEXTS.iter().enumerate() {
         let text = Some(row.1);
         check_given(
             &rt,
+            i,
             b"\xa1\x00",
             row.0,
             Properties {
                 name: text,
                 ..NOTHING
             },
-        )
-        .note(i)?;
+        );
         check_given(
             &rt,
+            i,
             b"\xa1\x01",
             row.0,
             Properties {
                 data_address: text,
                 ..NOTHING
             },
-        )
-        .note(i)?;
+        );
         check_given(
             &rt,
+            i,
             b"\xa1\x02",
             row.0,
             Properties {
                 resource_type: text,
                 ..NOTHING
             },
-        )
-        .note(i)?;
+        );
         check_given(
             &rt,
+            i,
             b"\xa1\x04",
             row.0,
             Properties {
                 topic_type: text,
                 ..NOTHING
             },
-        )
-        .note(i)?;
+        );
     }
-    Ok(())
 }
 
 // All eight keys, rising, falling and mixed.
@@ -286,8 +298,8 @@ fn all_keys(rt: HostRuntime) -> Result<(), Fail> {
         max_subscribers: Some(5),
         observer_check: Some(3600),
     };
-    for bytes in &ALL {
-        check_same(&rt, read(bytes)?, wanted);
+    for (i, bytes) in ALL.iter().enumerate() {
+        check_same(&rt, i, read(bytes)?, wanted);
     }
     Ok(())
 }
