@@ -2,7 +2,6 @@
 use crate::helpers::{NOTHING, same};
 use map_writer::{addressed, with_defaults};
 use maps::Properties;
-use std::test::Fail;
 
 // Max-subscribers and observer check as given, and as completed.
 #[derive(Clone, Copy)]
@@ -21,7 +20,7 @@ const ROWS: [Row; 4] = [
 ];
 
 #[test]
-fn defaults(rt: HostRuntime) -> Result<(), Fail> {
+fn defaults(rt: HostRuntime) {
     for (i, row) in ROWS.iter().enumerate() {
         let p = Properties {
             name: Some(b"a"),
@@ -34,13 +33,12 @@ fn defaults(rt: HostRuntime) -> Result<(), Fail> {
             observer_check: Some(row.3),
             ..p
         };
-        same(&rt, &with_defaults(p), &completed).note(i)?;
+        same(&rt, i, &with_defaults(p), &completed);
     }
-    Ok(())
 }
 
 #[test]
-fn addresses(rt: HostRuntime) -> Result<(), Fail> {
+fn addresses(rt: HostRuntime) {
     let p = Properties {
         name: Some(b"a"),
         ..NOTHING
@@ -49,9 +47,10 @@ fn addresses(rt: HostRuntime) -> Result<(), Fail> {
         data_address: Some(b"/ps/data/00000001"),
         ..p
     };
-    same(&rt, &addressed(p, b"/ps/data/00000001"), &q)?;
+    same(&rt, 0, &addressed(p, b"/ps/data/00000001"), &q);
     same(
         &rt,
+        1,
         &addressed(
             Properties {
                 data_address: Some(b"/old"),
@@ -60,5 +59,5 @@ fn addresses(rt: HostRuntime) -> Result<(), Fail> {
             b"/ps/data/00000001",
         ),
         &q,
-    )
+    );
 }

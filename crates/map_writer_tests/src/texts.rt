@@ -2,7 +2,6 @@
 use crate::helpers::{BEFORE, NOTHING, fits};
 use maps::Properties;
 use std::process::Abort;
-use std::test::Fail;
 
 // The longest text.
 const LONGEST: usize = 65536;
@@ -28,55 +27,47 @@ const ROWS: [Row; 10] = [
 ];
 
 // A map with one text has a head, the key, the text's head and the text.
-fn framed(
-    rt: &impl Abort,
-    p: &Properties<'_>,
-    key: u8,
-    head: &[u8],
-    text: &[u8],
-) -> Result<(), Fail> {
+fn framed(rt: &impl Abort, row: usize, p: &Properties<'_>, key: u8, head: &[u8], text: &[u8]) {
     let mut out = [BEFORE; ROOM];
-    assert!(rt; head.len() <= 9 && text.len() <= LONGEST);
+    assert!(rt; head.len() <= 9 && text.len() <= LONGEST, "row {row}");
     let start = 2 + head.len();
     let end = start + text.len();
-    assert!(rt; end < ROOM);
-    fits(rt, p, end, &mut out)?;
-    assert_eq!(rt; out[0], 0xA1);
-    assert_eq!(rt; out[1], key);
-    assert_eq!(rt; &out[2..start], head);
-    assert_eq!(rt; &out[start..end], text);
-    Ok(())
+    assert!(rt; end < ROOM, "row {row}");
+    fits(rt, row, p, end, &mut out);
+    assert_eq!(rt; out[0], 0xA1, "row {row}");
+    assert_eq!(rt; out[1], key, "row {row}");
+    assert_eq!(rt; &out[2..start], head, "row {row}");
+    assert_eq!(rt; &out[start..end], text, "row {row}");
 }
 
-fn each(rt: &impl Abort, text: &[u8], head: &[u8]) -> Result<(), Fail> {
+fn each(rt: &impl Abort, row: usize, text: &[u8], head: &[u8]) {
     let name = Properties {
         name: Some(text),
         ..NOTHING
     };
-    framed(rt, &name, 0, head, text)?;
+    framed(rt, row, &name, 0, head, text);
     let address = Properties {
         data_address: Some(text),
         ..NOTHING
     };
-    framed(rt, &address, 1, head, text)?;
+    framed(rt, row, &address, 1, head, text);
     let resource = Properties {
         resource_type: Some(text),
         ..NOTHING
     };
-    framed(rt, &resource, 2, head, text)?;
+    framed(rt, row, &resource, 2, head, text);
     let topic = Properties {
         topic_type: Some(text),
         ..NOTHING
     };
-    framed(rt, &topic, 4, head, text)
+    framed(rt, row, &topic, 4, head, text);
 }
 
 #[test]
-fn texts(rt: HostRuntime) -> Result<(), Fail> {
+fn texts(rt: HostRuntime) {
     let text = [b'x'; LONGEST];
     for (i, row) in ROWS.iter().enumerate() {
-        assert!(rt; row.0 <= LONGEST);
-        each(&rt, &text[0..row.0], row.1).note(i)?;
+        assert!(rt; row.0 <= LONGEST, "row {i}");
+        each(&rt, i, &text[0..row.0], row.1);
     }
-    Ok(())
 }

@@ -2,7 +2,6 @@
 use crate::helpers::{BEFORE, NOTHING, fits, has_bytes};
 use map_writer::write;
 use maps::Properties;
-use std::test::Fail;
 
 // Properties with no more than a content format.
 fn bare(content_format: Option<u64>) -> Properties<'static> {
@@ -13,16 +12,15 @@ fn bare(content_format: Option<u64>) -> Properties<'static> {
 }
 
 #[test]
-fn nothing_given(rt: HostRuntime) -> Result<(), Fail> {
+fn nothing_given(rt: HostRuntime) {
     let p = bare(None);
-    has_bytes(&rt, &p, b"\xa0")?;
+    has_bytes(&rt, 0, &p, b"\xa0");
     let mut none = [BEFORE; 0];
     assert_eq!(rt; write(&p, &mut none), None);
-    Ok(())
 }
 
 #[test]
-fn as_a_client_sees_it(rt: HostRuntime) -> Result<(), Fail> {
+fn as_a_client_sees_it(rt: HostRuntime) {
     let p = Properties {
         name: Some(b"a"),
         data_address: Some(b"/ps/data/00000001"),
@@ -34,11 +32,11 @@ fn as_a_client_sees_it(rt: HostRuntime) -> Result<(), Fail> {
     let bytes =
         b"\xa5\x00\x61a\x01\x71/ps/data/00000001\x02\x6ccore.ps.data\x06\x18\x64\x07\x1a\x00\x01\x51\x80";
     assert_eq!(rt; bytes.len(), 46);
-    has_bytes(&rt, &p, bytes)
+    has_bytes(&rt, 0, &p, bytes);
 }
 
 #[test]
-fn every_key(rt: HostRuntime) -> Result<(), Fail> {
+fn every_key(rt: HostRuntime) {
     let p = Properties {
         name: Some(b""),
         data_address: Some(b"d"),
@@ -51,13 +49,14 @@ fn every_key(rt: HostRuntime) -> Result<(), Fail> {
     };
     has_bytes(
         &rt,
+        0,
         &p,
         b"\xa8\x00\x60\x01\x61d\x02\x61r\x03\x00\x04\x61t\x05\xc1\x18\x18\x06\x01\x07\x19\x01\x00",
-    )
+    );
 }
 
 #[test]
-fn largest_of_a_topic(rt: HostRuntime) -> Result<(), Fail> {
+fn largest_of_a_topic(rt: HostRuntime) {
     let text = [b'x'; 256];
     let p = Properties {
         name: Some(&text),
@@ -70,5 +69,5 @@ fn largest_of_a_topic(rt: HostRuntime) -> Result<(), Fail> {
         observer_check: Some(4294967295),
     };
     let mut out = [BEFORE; 576];
-    fits(&rt, &p, 574, &mut out)
+    fits(&rt, 0, &p, 574, &mut out);
 }

@@ -12,8 +12,8 @@ struct Row(&'static [u8], Fault);
 fn all_told(rt: &impl Abort, rows: &[Row]) -> Result<(), Fail> {
     for (i, row) in rows.iter().enumerate() {
         match read(row.0) {
-            Ok(_) => return Err(Fail::new(format_args!("a map without a fault: {i}"))),
-            Err(fault) => assert_eq!(rt; fault, row.1, "{i}"),
+            Ok(_) => return Err(Fail::new(format_args!("row {i}: a map without a fault"))),
+            Err(fault) => assert_eq!(rt; fault, row.1, "row {i}"),
         }
     }
     Ok(())

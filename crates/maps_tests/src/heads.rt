@@ -51,9 +51,9 @@ fn whole_heads(rt: HostRuntime) -> Result<(), Fail> {
     for (i, row) in WHOLE.iter().enumerate() {
         let mut reader = Reader::new(row.0);
         let head = reader.head()?;
-        assert_eq!(rt; head.major, row.1, "{i}");
-        assert_eq!(rt; head.argument, row.2, "{i}");
-        assert!(rt; reader.is_done(), "{i}");
+        assert_eq!(rt; head.major, row.1, "row {i}");
+        assert_eq!(rt; head.argument, row.2, "row {i}");
+        assert!(rt; reader.is_done(), "row {i}");
     }
     Ok(())
 }
@@ -88,10 +88,10 @@ const FAULTY: [Faulty; 18] = [
 fn faulty_heads(rt: HostRuntime) -> Result<(), Fail> {
     for (i, row) in FAULTY.iter().enumerate() {
         let mut reader = Reader::new(row.0);
-        assert_eq!(rt; reader.head().err(), Some(row.1), "{i}");
-        assert_eq!(rt; reader.head().err(), Some(row.1), "{i}");
-        assert_eq!(rt; reader.text(row.0.len() as u64)?, row.0, "{i}");
-        assert!(rt; reader.is_done(), "{i}");
+        assert_eq!(rt; reader.head().err(), Some(row.1), "row {i}");
+        assert_eq!(rt; reader.head().err(), Some(row.1), "row {i}");
+        assert_eq!(rt; reader.text(row.0.len() as u64)?, row.0, "row {i}");
+        assert!(rt; reader.is_done(), "row {i}");
     }
     Ok(())
 }

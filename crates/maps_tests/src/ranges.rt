@@ -36,7 +36,7 @@ fn check_number(rt: &impl Abort, i: usize, row: Number, nothing: Properties<'_>)
             ..nothing
         }),
         row.1,
-        "{i}"
+        "row {i}"
     );
     assert_eq!(rt;
         fits(Properties {
@@ -44,7 +44,7 @@ fn check_number(rt: &impl Abort, i: usize, row: Number, nothing: Properties<'_>)
             ..nothing
         }),
         row.2,
-        "{i}"
+        "row {i}"
     );
     assert_eq!(rt;
         fits(Properties {
@@ -52,7 +52,7 @@ fn check_number(rt: &impl Abort, i: usize, row: Number, nothing: Properties<'_>)
             ..nothing
         }),
         row.3,
-        "{i}"
+        "row {i}"
     );
     assert_eq!(rt;
         fits(Properties {
@@ -60,7 +60,7 @@ fn check_number(rt: &impl Abort, i: usize, row: Number, nothing: Properties<'_>)
             ..nothing
         }),
         row.3,
-        "{i}"
+        "row {i}"
     );
 }
 

@@ -17,33 +17,41 @@ const NOTHING: Properties<'static> = Properties {
 
 // The properties got from the bytes of a row are those that are wanted.
 fn check_same(rt: &impl Abort, row: usize, got: Properties<'_>, wanted: Properties<'_>) {
-    assert_eq!(rt; got.name, wanted.name, "name of {row}");
+    assert_eq!(rt; got.name, wanted.name, "name of row {row}");
     assert_eq!(rt;
         got.data_address,
         wanted.data_address,
-        "data address of {row}"
+        "data address of row {row}"
     );
     assert_eq!(rt;
         got.resource_type,
         wanted.resource_type,
-        "resource type of {row}"
+        "resource type of row {row}"
     );
     assert_eq!(rt;
         got.content_format,
         wanted.content_format,
-        "content format of {row}"
+        "content format of row {row}"
     );
-    assert_eq!(rt; got.topic_type, wanted.topic_type, "topic type of {row}");
-    assert_eq!(rt; got.expiration, wanted.expiration, "expiration of {row}");
+    assert_eq!(rt;
+        got.topic_type,
+        wanted.topic_type,
+        "topic type of row {row}"
+    );
+    assert_eq!(rt;
+        got.expiration,
+        wanted.expiration,
+        "expiration of row {row}"
+    );
     assert_eq!(rt;
         got.max_subscribers,
         wanted.max_subscribers,
-        "max subscribers of {row}"
+        "max subscribers of row {row}"
     );
     assert_eq!(rt;
         got.observer_check,
         wanted.observer_check,
-        "observer check of {row}"
+        "observer check of row {row}"
     );
 }
 
@@ -140,7 +148,7 @@ const NUMBERS: [Number; 18] = [
 
 // A map of one key and its value, which has at most 40 bytes.
 fn with_key(rt: &impl Abort, row: usize, start: &[u8], value: &[u8], room: &mut [u8; 48]) -> usize {
-    assert!(rt; start.len() <= 4 && value.len() <= 40, "{row}");
+    assert!(rt; start.len() <= 4 && value.len() <= 40, "row {row}");
     let n = start.len() + value.len();
     room[0..start.len()].copy_from_slice(start);
     room[start.len()..n].copy_from_slice(value);
@@ -151,10 +159,10 @@ fn with_key(rt: &impl Abort, row: usize, start: &[u8], value: &[u8], room: &mut 
 fn check_given(rt: &impl Abort, row: usize, start: &[u8], value: &[u8], wanted: Properties<'_>) {
     let mut room = [0; 48];
     let n = with_key(rt, row, start, value, &mut room);
-    assert!(rt; n <= 48, "{row}");
+    assert!(rt; n <= 48, "row {row}");
     match read(&room[0..n]) {
         Ok(got) => check_same(rt, row, got, wanted),
-        Err(fault) => panic!(rt; "{fault:?} at {row}"),
+        Err(fault) => panic!(rt; "row {row}: {fault:?}"),
     }
 }
 
