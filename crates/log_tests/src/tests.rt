@@ -1,9 +1,9 @@
 // The tables, run on log stores in memory of several sizes.
-use crate::cases::{DEAD, LIMITS, Put, ROOMS, TWO, TWO_BACK, TWO_FRONT};
+use crate::cases::{DEAD, LIMITS, Put, ROOMS, Room, TWO, TWO_BACK, TWO_FRONT};
 use log_store::with_log;
 use protocol::{Handle, Refusal};
+use std::fmt::Display;
 use std::process::Abort;
-use std::test::*;
 use store::{Key, Store, Work};
 
 // What memory and buffers hold before.
@@ -19,42 +19,45 @@ fn key_of(handle: u32) -> Key {
 
 // Puts the front of the bytes.
 fn put_front<S: Store>(
+    rt: &impl Abort,
     store: &mut S,
     handle: u32,
     bytes: &[u8],
     len: usize,
-) -> Result<Result<(), Refusal>, Fail> {
-    assert!(len <= bytes.len());
-    Ok(store.put(key_of(handle), &bytes[0..len]))
+    note: &impl Display,
+) -> Result<(), Refusal> {
+    assert!(rt; len <= bytes.len(), "{note}");
+    store.put(key_of(handle), &bytes[0..len])
 }
 
-fn check_put<S: Store>(store: &mut S, put: Put) -> Result<(), Fail> {
+fn check_put<S: Store>(rt: &impl Abort, store: &mut S, put: Put, note: &impl Display) {
     let value = [put.byte; 577];
-    assert_eq!(put_front(store, put.handle, &value, put.len)?, put.answer);
-    Ok(())
+    assert_eq!(rt;
+        put_front(rt, store, put.handle, &value, put.len, note),
+        put.answer,
+        "{note}"
+    );
 }
 
-fn check_puts<S: Store>(store: &mut S, puts: &[Put]) -> Result<(), Fail> {
+fn check_puts<S: Store>(rt: &impl Abort, store: &mut S, puts: &[Put]) {
     for (i, put) in puts.iter().enumerate() {
-        check_put(store, *put).note(format_args!("put {i}"))?;
+        check_put(rt, store, *put, &format_args!("put {i}"));
     }
-    Ok(())
 }
 
 // The buffer has so many equal bytes in front, and behind them what it had before.
-fn check_buffer(out: &[u8], len: usize, byte: u8) -> Result<(), Fail> {
+fn check_buffer(rt: &impl Abort, out: &[u8], len: usize, byte: u8) {
     for (i, b) in out.iter().enumerate() {
         let expected = if i < len { byte } else { BEFORE };
-        assert_eq!(*b, expected, "byte {i}");
+        assert_eq!(rt; *b, expected, "byte {i}");
     }
-    Ok(())
 }
 
 // The key has a value of so many equal bytes, or none.
-fn check_value<S: Store>(store: &S, handle: u32, len: Option<usize>, byte: u8) -> Result<(), Fail> {
+fn check_value<S: Store>(rt: &impl Abort, store: &S, handle: u32, len: Option<usize>, byte: u8) {
     let mut out = [BEFORE; 576];
-    assert_eq!(store.get(key_of(handle), &mut out), Ok(len));
-    check_buffer(&out, len.unwrap_or(0), byte)
+    assert_eq!(rt; store.get(key_of(handle), &mut out), Ok(len));
+    check_buffer(rt, &out, len.unwrap_or(0), byte);
 }
 
 // How many keys take the longest values.
@@ -69,35 +72,27 @@ fn fill<S: Store>(store: &mut S) -> u32 {
 }
 
 // The bytes stand at a place of the memory.
-fn check_bytes(rt: &impl Abort, memory: &[u8], from: usize, bytes: &[u8]) -> Result<(), Fail> {
+fn check_bytes(rt: &impl Abort, memory: &[u8], from: usize, bytes: &[u8]) {
     assert!(rt; from <= memory.len());
     assert!(rt; bytes.len() <= memory.len() - from);
     for (i, b) in bytes.iter().enumerate() {
         assert_eq!(rt; memory[from + i], *b, "byte {i}");
     }
-    Ok(())
 }
 
 // Equal bytes stand at a place of the memory.
-fn check_run(
-    rt: &impl Abort,
-    memory: &[u8],
-    from: usize,
-    len: usize,
-    byte: u8,
-) -> Result<(), Fail> {
+fn check_run(rt: &impl Abort, memory: &[u8], from: usize, len: usize, byte: u8) {
     assert!(rt; from <= memory.len());
     assert!(rt; len <= memory.len() - from);
     for i in 0..len {
         assert_eq!(rt; memory[from + i], byte, "byte {i}");
     }
-    Ok(())
 }
 
 // What is done with a store.
 #[derive(Clone, Copy)]
 enum Job {
-    Fill(u32),
+    Fill(Room),
     Limits,
     Two,
     Squeeze,
@@ -106,92 +101,75 @@ enum Job {
     Thousand,
 }
 
-impl Work for Job {
-    type Output = Result<(), Fail>;
+// A job, and the runtime that is told of what is wrong.
+#[derive(Drop)]
+struct Task<'a, R> {
+    rt: &'a R,
+    job: Job,
+}
+
+impl<R: Abort> Work for Task<'_, R> {
+    type Output = ();
 
     ghost done = { λ _ _ _ _. Unit {0} };
 
-    fn run<S: Store>(self, store: &mut S) -> Result<(), Fail> {
-        match self {
-            Job::Fill(keys) => {
-                assert_eq!(fill(store), keys);
-                Ok(())
-            },
-            Job::Limits => check_limits(store),
-            Job::Two => check_puts(store, &TWO),
-            Job::Squeeze => check_squeeze(store),
-            Job::Exact => check_exact(store),
-            Job::Remove => check_remove(store),
-            Job::Thousand => check_thousand(store),
+    fn run<S: Store>(self, store: &mut S) {
+        match self.job {
+            Job::Fill(room) => assert_eq!(self.rt; fill(store), room.keys, "{} bytes", room.len),
+            Job::Limits => check_limits(self.rt, store),
+            Job::Two => check_puts(self.rt, store, &TWO),
+            Job::Squeeze => check_squeeze(self.rt, store),
+            Job::Exact => check_exact(self.rt, store),
+            Job::Remove => check_remove(self.rt, store),
+            Job::Thousand => check_thousand(self.rt, store),
         }
     }
 }
 
 // The job is done with a log store in this memory, unless the memory is refused.
-fn check_job(
-    rt: &impl Abort,
-    memory: &mut [u8],
-    job: Job,
-    answer: Result<(), Refusal>,
-) -> Result<(), Fail> {
-    match with_log(memory, job) {
-        Ok(outcome) => {
-            outcome?;
-            assert_eq!(rt; Ok(()), answer);
-            Ok(())
-        }
-        Err(refusal) => {
-            assert_eq!(rt; Err(refusal), answer);
-            Ok(())
-        },
-    }
+fn check_job(rt: &impl Abort, memory: &mut [u8], job: Job, answer: Result<(), Refusal>) {
+    let len = memory.len();
+    assert_eq!(rt; with_log(memory, Task { rt, job }), answer, "{len} bytes");
 }
 
 // A store is empty whatever its memory holds, and takes as many keys as there is room for.
 #[test]
-fn rooms(rt: HostRuntime) -> Result<(), Fail> {
+fn rooms(rt: HostRuntime) {
     let mut memory = [BEFORE; 1750];
     let memory = &mut memory[..];
     for room in ROOMS.iter() {
         assert!(rt; room.len <= memory.len());
-        check_job(
-            &rt,
-            &mut memory[0..room.len],
-            Job::Fill(room.keys),
-            room.answer,
-        )
-        .note(format_args!("{}", room.len))?;
+        check_job(&rt, &mut memory[0..room.len], Job::Fill(*room), room.answer);
     }
-    Ok(())
 }
 
-fn check_limits<S: Store>(store: &mut S) -> Result<(), Fail> {
-    check_puts(store, &LIMITS)?;
-    check_value(store, 1, Some(576), 3)?;
-    check_value(store, 2, Some(575), 2)?;
-    check_value(store, 3, None, 0)?;
-    assert!(store.is_full_for(key_of(3)));
-    Ok(())
+fn check_limits<S: Store>(rt: &impl Abort, store: &mut S) {
+    check_puts(rt, store, &LIMITS);
+    check_value(rt, store, 1, Some(576), 3);
+    check_value(rt, store, 2, Some(575), 2);
+    check_value(rt, store, 3, None, 0);
+    assert!(rt; store.is_full_for(key_of(3)));
 }
 
 #[test]
-fn limits(rt: HostRuntime) -> Result<(), Fail> {
+fn limits(rt: HostRuntime) {
     let mut memory = [BEFORE; 1166];
-    check_job(&rt, &mut memory, Job::Limits, Ok(()))
+    check_job(&rt, &mut memory, Job::Limits, Ok(()));
 }
 
 // The bytes of a log after two puts.
 #[test]
-fn bytes(rt: HostRuntime) -> Result<(), Fail> {
+fn bytes(rt: HostRuntime) {
     let mut memory = [BEFORE; 1166];
-    check_job(&rt, &mut memory, Job::Two, Ok(()))?;
-    check_bytes(&rt, &memory, 0, &TWO_FRONT)?;
-    check_bytes(&rt, &memory, 265, &TWO_BACK)
+    check_job(&rt, &mut memory, Job::Two, Ok(()));
+    check_bytes(&rt, &memory, 0, &TWO_FRONT);
+    check_bytes(&rt, &memory, 265, &TWO_BACK);
 }
 
-fn check_squeeze<S: Store>(store: &mut S) -> Result<(), Fail> {
-    check_puts(store, &DEAD)?;
+fn check_squeeze<S: Store>(rt: &impl Abort, store: &mut S) {
+    check_puts(rt, store, &DEAD);
     check_put(
+        rt,
         store,
         Put {
             handle: 1,
@@ -199,25 +177,27 @@ fn check_squeeze<S: Store>(store: &mut S) -> Result<(), Fail> {
             byte: 19,
             answer: Ok(()),
         },
-    )?;
-    check_value(store, 1, Some(90), 19)?;
-    check_value(store, 2, Some(100), 21)
+        &"last put",
+    );
+    check_value(rt, store, 1, Some(90), 19);
+    check_value(rt, store, 2, Some(100), 21);
 }
 
 // A put that does not fit squeezes out what is dead, and the old entry of its key.
 #[test]
-fn squeeze(rt: HostRuntime) -> Result<(), Fail> {
+fn squeeze(rt: HostRuntime) {
     let mut memory = [BEFORE; 1166];
-    check_job(&rt, &mut memory, Job::Squeeze, Ok(()))?;
-    check_run(&rt, &memory, 0, 100, 21)?;
-    check_bytes(&rt, &memory, 100, &[0, 0, 0, 2, 0, 0, 100])?;
-    check_run(&rt, &memory, 107, 90, 19)?;
-    check_bytes(&rt, &memory, 197, &[0, 0, 0, 1, 0, 0, 90])
+    check_job(&rt, &mut memory, Job::Squeeze, Ok(()));
+    check_run(&rt, &memory, 0, 100, 21);
+    check_bytes(&rt, &memory, 100, &[0, 0, 0, 2, 0, 0, 100]);
+    check_run(&rt, &memory, 107, 90, 19);
+    check_bytes(&rt, &memory, 197, &[0, 0, 0, 1, 0, 0, 90]);
 }
 
-fn check_exact<S: Store>(store: &mut S) -> Result<(), Fail> {
-    check_puts(store, &DEAD)?;
+fn check_exact<S: Store>(rt: &impl Abort, store: &mut S) {
+    check_puts(rt, store, &DEAD);
     check_put(
+        rt,
         store,
         Put {
             handle: 1,
@@ -225,38 +205,38 @@ fn check_exact<S: Store>(store: &mut S) -> Result<(), Fail> {
             byte: 19,
             answer: Ok(()),
         },
-    )
+        &"last put",
+    );
 }
 
 // A put that just fits squeezes nothing out.
 #[test]
-fn exact_fit(rt: HostRuntime) -> Result<(), Fail> {
+fn exact_fit(rt: HostRuntime) {
     let mut memory = [BEFORE; 1166];
-    check_job(&rt, &mut memory, Job::Exact, Ok(()))?;
-    check_run(&rt, &memory, 0, 100, 11)?;
-    check_run(&rt, &memory, 1070, 89, 19)?;
-    check_bytes(&rt, &memory, 1159, &[0, 0, 0, 1, 0, 0, 89])
+    check_job(&rt, &mut memory, Job::Exact, Ok(()));
+    check_run(&rt, &memory, 0, 100, 11);
+    check_run(&rt, &memory, 1070, 89, 19);
+    check_bytes(&rt, &memory, 1159, &[0, 0, 0, 1, 0, 0, 89]);
 }
 
-fn check_remove<S: Store>(store: &mut S) -> Result<(), Fail> {
-    check_puts(store, &DEAD)?;
-    assert!(store.next(Handle(0)).is_some());
-    assert_eq!(store.remove(key_of(1)), Ok(true));
-    assert_eq!(store.remove(key_of(1)), Ok(false));
-    check_value(store, 1, None, 0)?;
-    check_value(store, 2, Some(100), 21)?;
-    assert!(!store.is_full_for(key_of(3)));
-    assert_eq!(store.remove(key_of(2)), Ok(true));
-    assert!(store.next(Handle(0)).is_none());
-    Ok(())
+fn check_remove<S: Store>(rt: &impl Abort, store: &mut S) {
+    check_puts(rt, store, &DEAD);
+    assert!(rt; store.next(Handle(0)).is_some());
+    assert_eq!(rt; store.remove(key_of(1)), Ok(true));
+    assert_eq!(rt; store.remove(key_of(1)), Ok(false));
+    check_value(rt, store, 1, None, 0);
+    check_value(rt, store, 2, Some(100), 21);
+    assert!(rt; !store.is_full_for(key_of(3)));
+    assert_eq!(rt; store.remove(key_of(2)), Ok(true));
+    assert!(rt; store.next(Handle(0)).is_none());
 }
 
 // A remove takes the dead entries of its key too; those of another key may stay.
 #[test]
-fn remove(rt: HostRuntime) -> Result<(), Fail> {
+fn remove(rt: HostRuntime) {
     let mut memory = [BEFORE; 1166];
-    check_job(&rt, &mut memory, Job::Remove, Ok(()))?;
-    check_run(&rt, &memory, 0, 100, 20)
+    check_job(&rt, &mut memory, Job::Remove, Ok(()));
+    check_run(&rt, &memory, 0, 100, 20);
 }
 
 // The byte of a turn.
@@ -264,7 +244,7 @@ fn byte_of(turn: u32) -> u8 {
     (turn % 251) as u8
 }
 
-fn check_thousand<S: Store>(store: &mut S) -> Result<(), Fail> {
+fn check_thousand<S: Store>(rt: &impl Abort, store: &mut S) {
     for i in 0u32..1000 {
         let put = Put {
             handle: 1,
@@ -272,13 +252,13 @@ fn check_thousand<S: Store>(store: &mut S) -> Result<(), Fail> {
             byte: byte_of(i),
             answer: Ok(()),
         };
-        check_put(store, put).note(format_args!("turn {i}"))?;
+        check_put(rt, store, put, &format_args!("turn {i}"));
     }
-    check_value(store, 1, Some(576), 246)
+    check_value(rt, store, 1, Some(576), 246);
 }
 
 #[test]
-fn same_key_a_thousand_times(rt: HostRuntime) -> Result<(), Fail> {
+fn same_key_a_thousand_times(rt: HostRuntime) {
     let mut memory = [BEFORE; 1166];
-    check_job(&rt, &mut memory, Job::Thousand, Ok(()))
+    check_job(&rt, &mut memory, Job::Thousand, Ok(()));
 }

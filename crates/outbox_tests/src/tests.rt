@@ -5,6 +5,7 @@ use outbox::Payload;
 use protocol::Refusal;
 use shared_outbox::{Entry, Place, Shared};
 use slot_outbox::{Slot, Slots};
+use std::test::Fail;
 
 fn slot() -> Result<Slot<Session>, Fail> {
     Ok(Slot {
