@@ -1,7 +1,7 @@
 # Two commands for a fresh machine that has the kit.
 .PHONY: run test
 
-# Proves and builds the program `sheet` (a minute or two the first time), and reads a household's sheet into a store.
+# Proves and builds the program `sheet` (some minutes the first time), and reads a household's sheet into a store.
 run:
 	@mkdir -p target
 	@echo "proving and building sheet (rt run; the log is target/run.log)"
