@@ -5,18 +5,9 @@ use Rattle.protocol.specs.declared.refusal.Refusal.{Refusal}
 use Rattle.protocol.specs.declared.refusal.Refusal.TheVariants.{NoSuchTopic, HalfCreated, ForeignValue}
 use Rattle.maps.specs.Maps.{Props}
 use Rattle.readings.specs.Readings.{Reading, stored_reading}
-use Rattle.store.specs.Held.{Entry, look}
-use Rattle.store.specs.declared.key.Key.{Key}
+use Rattle.store.specs.Held.{Entry, look, data_key, properties_key}
 use Rattle.topics.specs.Admission.{gives}
 use Rattle.topics.specs.Stored.{stored}
-
--- the key of a topic's properties
-abbrev pub properties_key : ℕ → Key
-properties_key h = record { handle = record { 0 = h }; part = 0 }
-
--- the key of a topic's data
-abbrev pub data_key : ℕ → Key
-data_key h = record { handle = record { 0 = h }; part = 1 }
 
 -- the properties that a value gives, if it is as the broker writes it for this handle, and the handle is given
 abbrev pub kept : ℕ → ℕ → List ℕ → Option Props

@@ -1,1 +1,2 @@
+pub mod Endpoints
 pub mod Subs

@@ -1,5 +1,6 @@
 // Clients at a UDP endpoint: an address of 16 bytes and a port.
 ghost use Rattle.std.specs.Prelude.{◌≡◌, ◌++◌};
+ghost use Rattle.clients.specs.Endpoints.{address_of, port_of};
 ghost use Rattle.protocol.specs.Bytes.{be_bytes};
 
 use crate::client::Client;
@@ -12,8 +13,8 @@ pub struct Endpoint {
 
 impl Endpoint {
     pub fn new(address: [u8; 16], port: u16) -> Endpoint
-        ensures address { be_bytes 16 result.address ≡ address }
-        ensures port { result.port ≡ port }
+        ensures address { address_of result ≡ address }
+        ensures port { port_of result ≡ port }
     {
         Endpoint {
             address: u128::from_be_bytes(address),
@@ -22,20 +23,20 @@ impl Endpoint {
     }
 
     pub fn address(self) -> [u8; 16]
-        ensures { result ≡ be_bytes 16 self.address }
+        ensures { result ≡ address_of self }
     {
         self.address.to_be_bytes()
     }
 
     pub fn port(self) -> u16
-        ensures { result ≡ self.port }
+        ensures { result ≡ port_of self }
     {
         self.port
     }
 }
 
 impl Client for Endpoint {
-    ghost identity = { λ e. be_bytes 16 e.address ++ be_bytes 2 e.port };
+    ghost identity = { λ e. address_of e ++ be_bytes 2 (port_of e) };
 
     fn same(&self, other: &Endpoint) -> bool {
         self.address == other.address && self.port == other.port

@@ -1,4 +1,5 @@
 pub mod Format
 pub mod Laws
+pub mod Log
 pub mod Logs
 pub mod Memories

@@ -3,6 +3,7 @@ ghost use Rattle.std.specs.Prelude.{◌≡◌, ◌+◌, ◌/◌, ◌^◌, ◌<�
 ghost use Rattle.log_store.specs.Format.{entries};
 ghost use Rattle.log_store.specs.Logs.{meaning};
 ghost use Rattle.log_store.specs.Memories.{contents, size};
+ghost use Rattle.log_store.specs.Log.{log_capacity, log_held};
 ghost use Rattle.log_store.specs.Laws.{sound-meaning, two_entries, within_of};
 
 use crate::held::LogStore;
@@ -40,9 +41,9 @@ impl<'a> LogStore<'a> {
 }
 
 impl Store for LogStore<'_> {
-    ghost held = { λ s. meaning (entries (contents s.memory)) };
+    ghost held = { log_held };
 
-    ghost capacity = { λ s. size s.memory / 583 };
+    ghost capacity = { log_capacity };
 
     ghost sound = { λ s. sound-meaning (entries (contents s.memory)) s.fits };
 

@@ -1,5 +1,5 @@
 -- Property maps: which properties the bytes of a map give, or which fault, and the one form in which properties are written.
-use Rattle.std.specs.Prelude.{ℕ, zero, suc, ◌+◌, Bool, true, false, cond, ◌&&◌, leb, List, [], ◌∷◌, ◌++◌, length, take, drop, is_some, Some, None, Ok, Err, Option, Result, ◌==◌, nat_le, nat_lt}
+use Rattle.std.specs.Prelude.{ℕ, zero, suc, ◌+◌, Bool, true, false, cond, ◌&&◌, List, [], ◌∷◌, ◌++◌, length, take, drop, is_some, Some, None, Ok, Err, Option, Result, ◌==◌, nat_le, nat_lt}
 use Rattle.std.specs.Option.{option_map, unwrap_or}
 use Rattle.protocol.specs.declared.fault.Fault.{Fault}
 use Rattle.protocol.specs.declared.fault.Fault.TheVariants.{Ends, WrongType, UnknownKey, RepeatedKey, Trailing}
@@ -294,11 +294,11 @@ absent_or ok (Some x) = ok x
 abbrev pub in_range : Props → Bool
 in_range p =
     absent_or (λ t. nat_lt 0 (length t) && nat_le (length t) 256) p.name
-    && (absent_or (λ n. leb n 65535) p.content_format
-    && (absent_or (λ t. leb (length t) 256) p.topic_type
-    && (absent_or (λ n. leb n 4294967295) p.expiration
-    && (absent_or (λ n. leb n 100) p.max_subscribers
-    && absent_or (λ n. leb n 4294967295) p.observer_check))))
+    && (absent_or (λ n. nat_le n 65535) p.content_format
+    && (absent_or (λ t. nat_le (length t) 256) p.topic_type
+    && (absent_or (λ n. nat_le n 4294967295) p.expiration
+    && (absent_or (λ n. nat_le n 100) p.max_subscribers
+    && absent_or (λ n. nat_le n 4294967295) p.observer_check))))
 
 -- max-subscribers and observer-check where they are not given
 abbrev pub with_defaults : Props → Props

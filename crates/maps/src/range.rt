@@ -1,5 +1,5 @@
 // Whether the values of properties lie in their ranges.
-ghost use Rattle.std.specs.Prelude.{◌≡◌, ◌&&◌, leb, length, if◌then◌else◌, Ok, Err, nat_le};
+ghost use Rattle.std.specs.Prelude.{◌≡◌, ◌&&◌, length, if◌then◌else◌, Ok, Err, nat_le};
 ghost use Rattle.std.specs.Option.{option_map};
 ghost use Rattle.protocol.specs.declared.refusal.Refusal.TheVariants.{BadValue};
 ghost use Rattle.maps.specs.Maps.{in_range, meant, absent_or};
@@ -27,7 +27,7 @@ fn text_within(text: Option<&[u8]>, least: usize) -> bool
 
 // Whether a number is absent, or at most the limit.
 fn at_most(number: Option<u64>, limit: u64) -> bool
-    ensures { result ≡ absent_or (λ n. leb n limit) number }
+    ensures { result ≡ absent_or (λ n. nat_le n limit) number }
 {
     match number {
         Some(n) => n <= limit,

@@ -11,7 +11,7 @@ use Rattle.maps.specs.Maps.{Props, written, absent_or}
 use Rattle.outbox.specs.Answers.{take_answer, rest}
 use Rattle.outbox.specs.Notes.{Note}
 use Rattle.outbox.specs.declared.message.Content as messages
-use Rattle.store.specs.Held.{full, put, remove}
+use Rattle.store.specs.Held.{full, put, remove, data_key, properties_key}
 use Rattle.subscribers.specs.Standing.{Standing, stands, subs_at, without, without_topic}
 use Rattle.topics.specs.Admission.{admitted}
 use Rattle.topics.specs.Amendment.{amended}
@@ -19,7 +19,7 @@ use Rattle.topics.specs.declared.amendment.Amendment.{Amendment}
 use Rattle.topics.specs.declared.amendment.Amendment.TheVariants.{Replace, Patch}
 use Rattle.readings.specs.Readings.{Reading, recorded}
 use Rattle.evictions.specs.Leaving.{leaving, without_each}
-use Rattle.catalog.specs.Catalog.{properties_key, data_key, topic_at, reading_at, has_data, topics, some_foreign, name_taken, first_due}
+use Rattle.catalog.specs.Catalog.{topic_at, reading_at, has_data, topics, some_foreign, name_taken, first_due}
 use Rattle.catalog.specs.Links.{handles_in, topic_links, data_links}
 use Rattle.model.specs.Calls.{Call, create, list, data_list, show, replace, patch, delete_topic, publish, read, subscribe, unsubscribe, delete_data, expire, take}
 use Rattle.model.specs.Outcomes.{Outcome, Step, expired, refused, replied, settled, took}

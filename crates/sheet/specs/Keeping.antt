@@ -5,10 +5,6 @@ use Rattle.maps.specs.Maps.{Props, written}
 use Rattle.store.specs.Held.{Entry, put, put_answer}
 use Rattle.store.specs.declared.key.Key.{Key}
 
--- the key of a topic's properties
-abbrev pub properties_key : ℕ → Key
-properties_key h = record { handle = record { 0 = h }; part = 0 }
-
 -- what is answered of a map: why it makes no topic, or what the store says of its written form
 abbrev pub answer_to : Result Props Refusal → List Entry → ℕ → Key → Result (Unit {0}) Refusal
 answer_to (Err e) es n k = Err e

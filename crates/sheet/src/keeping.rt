@@ -1,7 +1,8 @@
 // One map of the sheet, kept in the store as a topic.
 ghost use Rattle.std.specs.Prelude.{◌≡◌, length};
 ghost use Rattle.protocol.specs.Addresses.{data_address};
-ghost use Rattle.sheet.specs.Keeping.{answer_to, held_after, properties_key};
+ghost use Rattle.sheet.specs.Keeping.{answer_to, held_after};
+ghost use Rattle.store.specs.Held.{properties_key};
 ghost use Rattle.topics.specs.Admission.{admitted};
 
 use map_writer::write;

@@ -18,6 +18,14 @@ pub record Entry : Type 0 where
 abbrev pub proper : Key → Bool
 proper k = nat_lt 0 k.handle.0 && nat_lt k.part 2
 
+-- the key of a topic's properties
+abbrev pub properties_key : ℕ → Key
+properties_key h = record { handle = record { 0 = h }; part = 0 }
+
+-- the key of a topic's data
+abbrev pub data_key : ℕ → Key
+data_key h = record { handle = record { 0 = h }; part = 1 }
+
 -- keys rise by handle, and then by part: the place of a key in that order
 abbrev pub rank : Key → ℕ
 rank k = k.handle.0 * 2 + k.part

@@ -1,11 +1,11 @@
 -- What a store's map does, in the words of its users: one key is set or cleared, and the next topic is the lowest.
 use Rattle.std.specs.Prelude.{◌≡◌, ℕ, ◌<◌, ◌≤◌, Bool, true, false, cond, List, is_some, Some, None, Option}
 use Rattle.store.specs.declared.key.Key.{Key}
-use Rattle.store.specs.Held.{Entry, Sound, look, next, proper, put, remove, same_key}
+use Rattle.store.specs.Held.{Entry, Sound, look, next, proper, put, remove, same_key, properties_key}
 
 -- the handle's topic has properties
 abbrev pub has_properties : List Entry → ℕ → Bool
-has_properties es h = is_some (look es (record { handle = record { 0 = h }; part = 0 }))
+has_properties es h = is_some (look es (properties_key h))
 
 -- the answer is the lowest handle above the given one that has properties, and none where no such handle is
 abbrev pub Lowest : List Entry → ℕ → Option ℕ → Type 0

@@ -6,7 +6,8 @@ use Rattle.store.specs.declared.key.Key.{Key}
 use Rattle.store.specs.Held.{value_limit, same_key, look}
 use Rattle.table_store.specs.declared.place.Place.{Place}
 use Rattle.table_store.specs.Places.{value_of, map_of, holds, some_holds, all_held, tidy, First, Fit, Free}
-use Rattle.table_store.specs.Tables.{look-place, well-parts, well_at, any_place, around, some_holds-append}
+use Rattle.table_store.specs.Laws.{well-parts}
+use Rattle.table_store.proofs.Tables.{look-place, well_at, any_place, around, some_holds-append}
 use Rattle.table_store.proofs.Writes.{fit_free}
 
 -- one place more that is not held for the key

@@ -1,3 +1,4 @@
 pub mod Finds
 pub mod Lowest
+pub mod Tables
 pub mod Writes

@@ -8,7 +8,8 @@ use Rattle.store.specs.Held.{value_limit, proper, same_key, look, put, remove}
 use Rattle.store.proofs.Maps.{key-is, same_key_sym, same_key_like, look-put, look-remove, sound-put, sound-remove, one_map}
 use Rattle.table_store.specs.declared.place.Place.{Place}
 use Rattle.table_store.specs.Places.{value_of, map_of, holds, some_holds, well, tidy, filled, freed, First, Fit}
-use Rattle.table_store.specs.Tables.{look-place, look_none, tidy-parts, tidy_from, room_at, sound-map, any_place, around, some_holds-append}
+use Rattle.table_store.specs.Laws.{sound-map, tidy-parts}
+use Rattle.table_store.proofs.Tables.{look-place, look_none, tidy_from, room_at, any_place, around, some_holds-append}
 
 pub replaced : (ps : List Place) (i : ℕ) (q : Place) → i < length ps → set ps i q ≡ take i ps ++ q ∷ drop (i + 1) ps
 replaced ps i q l = set_split ps i q l ∙ simp add-one

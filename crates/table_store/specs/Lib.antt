@@ -1,3 +1,3 @@
+pub mod Laws
 pub mod Places
 pub mod Table
-pub mod Tables

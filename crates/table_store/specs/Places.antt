@@ -1,5 +1,5 @@
 -- What the places of a table mean: the map of those that are held.
-use Rattle.std.specs.Prelude.{◌≡◌, ℕ, ◌+◌, ◌<◌, Bool, true, false, cond, not, ◌&&◌, ◌||◌, List, [], ◌∷◌, ◌++◌, length, get_or, take, drop, ◌==◌, nat_le, slice_index_or}
+use Rattle.std.specs.Prelude.{◌≡◌, ℕ, ◌+◌, ◌<◌, Bool, true, false, cond, not, ◌&&◌, ◌||◌, List, [], ◌∷◌, ◌++◌, length, take, drop, ◌==◌, nat_le, slice_index_or}
 use Rattle.store.specs.declared.key.Key.{Key}
 use Rattle.store.specs.Held.{Entry, proper, put, same_key, value_limit}
 use Rattle.table_store.specs.declared.place.Place.{Place}
@@ -50,8 +50,8 @@ First ps k i = (i < length ps) × (some_holds (take i ps) k ≡ false) × ((d : 
 
 -- a place that is free
 abbrev pub Free : List Place → ℕ → Type 0
-Free ps i = (i < length ps) × ((d : Place) → (get_or ps i d).held ≡ false) × (all_held ps ≡ false)
+Free ps i = (i < length ps) × ((d : Place) → (slice_index_or ps i d).held ≡ false) × (all_held ps ≡ false)
 
 -- a place that a put of the key may write: held for it or free, where no other place is held for it
 abbrev pub Fit : List Place → Key → ℕ → Type 0
-Fit ps k i = (i < length ps) × (some_holds (take i ps) k ≡ false) × (some_holds (drop (i + 1) ps) k ≡ false) × ((d : Place) → ((get_or ps i d).held && not (same_key (get_or ps i d).key k)) ≡ false)
+Fit ps k i = (i < length ps) × (some_holds (take i ps) k ≡ false) × (some_holds (drop (i + 1) ps) k ≡ false) × ((d : Place) → ((slice_index_or ps i d).held && not (same_key (slice_index_or ps i d).key k)) ≡ false)

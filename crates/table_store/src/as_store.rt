@@ -2,7 +2,7 @@
 ghost use Rattle.table_store.specs.Table.{table_capacity, table_held};
 ghost use Rattle.std.specs.Prelude.{◌≡◌, ◌≤◌, [], length};
 ghost use Rattle.std.proofs.Common.{subst};
-ghost use Rattle.table_store.specs.Tables.{sound-map, length-map_le, two_places};
+ghost use Rattle.table_store.specs.Laws.{sound-map, length-map_le, two_places};
 ghost use Rattle.table_store.specs.Places.{map_of};
 
 use crate::place::Place;

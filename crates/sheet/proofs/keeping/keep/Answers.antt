@@ -1,6 +1,7 @@
 use Rattle.std.proofs.Common.{ap, ◌∙◌}
 use Rattle.topics.specs.Admission.{admitted}
-use Rattle.sheet.specs.Keeping.{answer_to, held_after, properties_key}
+use Rattle.sheet.specs.Keeping.{answer_to, held_after}
+use Rattle.store.specs.Held.{properties_key}
 use Rattle.sheet.proofs.keeping.keep.Goals as goal
 
 pub returns : goal.returns

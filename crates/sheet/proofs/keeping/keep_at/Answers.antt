@@ -3,7 +3,7 @@ use lib.ListN.{length-replicate}
 use Rattle.std.proofs.lemmas.Result.{err_from_is_err_and}
 use Rattle.maps.specs.Maps.{meant}
 use Rattle.map_writer.proofs.Largest.{largest}
-use Rattle.sheet.specs.Keeping.{properties_key}
+use Rattle.store.specs.Held.{properties_key}
 use Rattle.sheet.proofs.Keeps.{never_none, len_is, value-is, refused, stored}
 use Rattle.sheet.proofs.keeping.keep_at.Goals as goal
 

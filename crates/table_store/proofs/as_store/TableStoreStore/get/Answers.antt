@@ -2,7 +2,7 @@ use Rattle.std.proofs.Common.{Some, Ok, sym, ap, ◌∙◌}
 use Rattle.store.proofs.Replies.{get_answers, get_fills}
 use Rattle.table_store.specs.Places.{map_of}
 use Rattle.table_store.proofs.Finds.{first_len, look_found}
-use Rattle.table_store.specs.Tables.{look_none, room_at}
+use Rattle.table_store.proofs.Tables.{look_none, room_at}
 use Rattle.table_store.proofs.as_store.TableStoreStore.get.Goals as goal
 
 pub copy_to-n-requires : goal.copy_to-n-requires

@@ -1,5 +1,5 @@
 use Rattle.std.proofs.Common.{◌≡◌, Bool, true, false, not, sym, refl, ap, ◌∙◌}
-use Rattle.table_store.specs.Tables.{full_for}
+use Rattle.table_store.proofs.Tables.{full_for}
 use Rattle.table_store.proofs.as_store.TableStoreStore.is_full_for.Goals as goal
 
 not_not : (b : Bool) → b ≡ not (not b)

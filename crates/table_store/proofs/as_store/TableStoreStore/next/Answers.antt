@@ -1,6 +1,6 @@
 use Rattle.store.proofs.Maps.{lowest-next, lowest_one}
 use Rattle.table_store.specs.Places.{map_of}
-use Rattle.table_store.specs.Tables.{sound-map}
+use Rattle.table_store.specs.Laws.{sound-map}
 use Rattle.table_store.proofs.as_store.TableStoreStore.next.Goals as goal
 
 pub returns : goal.returns

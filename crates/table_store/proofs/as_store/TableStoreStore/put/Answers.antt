@@ -3,7 +3,7 @@ use Rattle.std.proofs.lemmas.List.{length-set}
 use Rattle.store.proofs.Replies.{put_answers, put_full}
 use Rattle.table_store.specs.declared.place.Place.{Place}
 use Rattle.table_store.specs.Places.{map_of, tidy}
-use Rattle.table_store.specs.Tables.{full_for}
+use Rattle.table_store.proofs.Tables.{full_for}
 use Rattle.table_store.proofs.Writes.{map-put, tidy-put}
 use Rattle.table_store.proofs.as_store.TableStoreStore.put.Goals as goal
 

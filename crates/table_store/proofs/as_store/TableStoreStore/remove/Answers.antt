@@ -5,7 +5,7 @@ use Rattle.store.proofs.Replies.{remove_answers}
 use Rattle.table_store.specs.declared.place.Place.{Place}
 use Rattle.table_store.specs.Places.{map_of, tidy}
 use Rattle.table_store.proofs.Finds.{first_some}
-use Rattle.table_store.specs.Tables.{look_none, look_some}
+use Rattle.table_store.proofs.Tables.{look_none, look_some}
 use Rattle.table_store.proofs.Writes.{map-remove, tidy-remove}
 use Rattle.table_store.proofs.as_store.TableStoreStore.remove.Goals as goal
 

@@ -1,5 +1,5 @@
 use Rattle.std.proofs.Common.{refl}
-use Rattle.table_store.specs.Tables.{map_empty, tidy_empty}
+use Rattle.table_store.proofs.Tables.{map_empty, tidy_empty}
 use Rattle.table_store.proofs.table.TableStore.new.Goals as goal
 
 pub invariant_of-result : goal.invariant_of-result

@@ -1,14 +1,15 @@
--- Laws of the places of a table: look-ups in their map, and its order and size.
-use Rattle.std.specs.Prelude.{◌≡◌, ℕ, zero, suc, ◌+◌, ◌<◌, ◌≤◌, Bool, true, false, cond, not, ◌&&◌, ◌||◌, leb, List, [], ◌∷◌, ◌++◌, length, get_or, take, drop, replicate, is_some, Some, None, nat_le, slice_index_or, refl}
-use Rattle.std.proofs.Common.{inl, inr, sym, ap, ◌∙◌, add-one, arith}
-use Rattle.std.proofs.lemmas.List.{length-take, set_split, set-get_or}
-use Rattle.std.proofs.lemmas.Bool.{cases_Bool, cond-false, cond_both, or_parts}
+-- Laws of the places of a table: look-ups in their map, and when it is full.
+use Rattle.std.proofs.Common.{◌≡◌, ℕ, zero, suc, ◌+◌, ◌<◌, Bool, true, false, cond, not, ◌||◌, leb, List, [], ◌∷◌, ◌++◌, length, get_or, take, drop, replicate, is_some, Some, None, refl, inl, inr, sym, ap, ◌∙◌, add-one, arith}
+use Rattle.std.specs.Prelude.{nat_le, slice_index_or}
+use Rattle.std.proofs.lemmas.List.{set_split, set-get_or}
+use Rattle.std.proofs.lemmas.Bool.{cases_Bool, cond-false, or_parts}
 use Rattle.std.proofs.lemmas.Bool.Decides.{nat_tests}
 use Rattle.store.specs.declared.key.Key.{Key}
-use Rattle.store.specs.Held.{value_limit, proper, look, full, Sound}
-use Rattle.store.proofs.Maps.{look-put, sound-put, length-put}
+use Rattle.store.specs.Held.{value_limit, proper, look, full}
+use Rattle.store.proofs.Maps.{look-put, length-put}
 use Rattle.table_store.specs.declared.place.Place.{Place}
 use Rattle.table_store.specs.Places.{value_of, map_of, holds, some_holds, all_held, well, tidy}
+use Rattle.table_store.specs.Laws.{Tidy, length-map_le, sound-map, tidy-parts, well-parts}
 
 -- what a place in front adds to a look-up
 pub look-place : (p : Place) (ps : List Place) (j : Key) → look (map_of (p ∷ ps)) j ≡ cond (holds p j) (Some (value_of p)) (look (map_of ps) j)
@@ -23,25 +24,8 @@ pub look_none : (ps : List Place) (j : Key) → some_holds ps j ≡ false → lo
 look_none [] j n = refl
 look_none (p ∷ ps) j n = let q = or_parts (holds p j) (some_holds ps j) n in look-place p ps j ∙ cond-false _ _ _ q.0 ∙ look_none ps j q.1
 
--- the parts of a tidy list
-pub record Tidy (p : Place) (ps : List Place) : Type 0 where
-  pub first : well p ≡ true
-  pub alone : (p.held && some_holds ps p.key) ≡ false
-  pub rest : tidy ps ≡ true
-
-pub tidy-parts : (p : Place) (ps : List Place) → tidy (p ∷ ps) ≡ true → Tidy p ps
-tidy-parts p ps t = record { first = grind (arith, nat_tests); alone = grind (arith, nat_tests); rest = grind (arith, nat_tests) }
-
 pub tidy_from : (p : Place) (ps : List Place) → Tidy p ps → tidy (p ∷ ps) ≡ true
 tidy_from p ps t = grind (arith, nat_tests)
-
-pub record Well (p : Place) : Type 0 where
-  pub room : length p.value ≡ value_limit
-  pub key : p.held ≡ true → proper p.key ≡ true
-  pub len : p.held ≡ true → p.len ≤ value_limit
-
-pub well-parts : (p : Place) → well p ≡ true → Well p
-well-parts p w = record { room = grind (arith, nat_tests); key = λ h. grind (arith, nat_tests); len = λ h. grind (arith, nat_tests) }
 
 -- each place of a tidy list is well
 pub well_at : (ps : List Place) (i : ℕ) (d : Place) → i < length ps → tidy ps ≡ true → well (slice_index_or ps i d) ≡ true
@@ -52,25 +36,6 @@ well_at (p ∷ ps) (suc i) d l t = well_at ps i d (omega arith) (tidy-parts p ps
 -- each place has room for the largest value
 pub room_at : (ps : List Place) (i : ℕ) (d : Place) → tidy ps ≡ true → i < length ps → length (get_or ps i d).value ≡ value_limit
 room_at ps i d t l = (well-parts (slice_index_or ps i d) (well_at ps i d l t)).room
-
-pub sound-map : (ps : List Place) → tidy ps ≡ true → Sound (map_of ps)
-sound-map [] t = tt
-sound-map (p ∷ ps) t =
-    let q = tidy-parts p ps t in
-    let w = well-parts p q.first in
-    cond_both p.held _ _ Sound
-    (λ h. sound-put (map_of ps) p.key (value_of p) (w.key h) (let l = w.len h in simp length-take (omega arith)) (sound-map ps q.rest))
-    (λ h. sound-map ps q.rest)
-
-pub length-map_le : (ps : List Place) → tidy ps ≡ true → length (map_of ps) ≤ length ps
-length-map_le [] t = omega arith
-length-map_le (p ∷ ps) t =
-    let q = tidy-parts p ps t in
-    let ih = length-map_le ps q.rest in
-    let w = well-parts p q.first in
-    cond_both p.held _ _ (λ es. length es ≤ suc (length ps))
-    (λ h. let l = length-put (map_of ps) p.key (value_of p) (w.key h) (sound-map ps q.rest) in grind (arith, nat_tests))
-    (λ h. omega arith)
 
 -- the map has as many keys as there are places exactly if every place is held
 pub full-map : (ps : List Place) → tidy ps ≡ true → nat_le (length ps) (length (map_of ps)) ≡ all_held ps
@@ -119,7 +84,3 @@ around ps i d l = sym (set-get_or ps i d) ∙ set_split ps i (slice_index_or ps 
 pub some_holds-append : (xs ys : List Place) (k : Key) → some_holds (xs ++ ys) k ≡ (some_holds xs k || some_holds ys k)
 some_holds-append [] ys k = refl
 some_holds-append (x ∷ xs) ys k = let ih = some_holds-append xs ys k in grind arith
-
--- a table has room for two keys
-pub two_places : 2 ≤ 64
-two_places = omega arith
