@@ -5,7 +5,7 @@ ghost use Rattle.protocol.specs.Bytes.{be_bytes};
 
 use crate::client::Client;
 
-#[derive(Clone, Copy)]
+#[derive(Clone, Copy, PartialEq, Eq, Debug)]
 pub struct Endpoint {
     address: u128,
     port: u16,
@@ -39,6 +39,7 @@ impl Client for Endpoint {
     ghost identity = { λ e. address_of e ++ be_bytes 2 (port_of e) };
 
     fn same(&self, other: &Endpoint) -> bool {
+        // field by field: a proof knows a number's range where the number itself is read, and not from a derived ==
         self.address == other.address && self.port == other.port
     }
 }

@@ -6,6 +6,7 @@ ghost use Rattle.hexadecimal.specs.Digits.{decoded, digit_value, hex_text};
 ghost use Rattle.protocol.specs.Addresses.{hex_digit};
 ghost use Rattle.std.specs.Option.{option_map};
 
+use protocol::hex_digit;
 use std::alloc::{AllocError, Global};
 
 // The value of a digit, in either case.
@@ -18,19 +19,6 @@ fn value_of(digit: u8) -> Option<u8>
         b'A'..=b'F' => Some(digit - b'A' + 10),
         b'a'..=b'f' => Some(digit - b'a' + 10),
         _ => None,
-    }
-}
-
-// The lowercase digit of a value below 16.
-fn digit_of(value: u8) -> char
-    requires { value < 16 }
-    ensures value { result ≡ hex_digit value }
-    ensures upper_bound { result < 128 }
-{
-    if value < 10 {
-        (b'0' + value) as char
-    } else {
-        (b'a' + (value - 10)) as char
     }
 }
 
@@ -65,8 +53,8 @@ pub fn decode(heap: Global, text: &[u8]) -> Result<Option<Vec<u8>>, AllocError>
 fn push_byte(text: &mut String, b: u8) -> Result<(), AllocError>
     ensures { OnOk result (string_bytes text.new ≡ string_bytes text.old ++ (hex_digit (b / 16) ∷ (hex_digit (b % 16) ∷ []))) }
 {
-    text.push(digit_of(b / 16))?;
-    text.push(digit_of(b % 16))?;
+    text.push(hex_digit(u32::from(b / 16)) as char)?;
+    text.push(hex_digit(u32::from(b)) as char)?;
     Ok(())
 }
 

@@ -1,7 +1,9 @@
 -- The numbers and response codes of the refusals, and the numbers of the faults of reading.
-use Rattle.std.specs.Prelude.{ℕ, Some, None, Option}
+use Rattle.std.specs.Fmt.{decimal}
+use Rattle.std.specs.Prelude.{ℕ, List, [], ◌++◌, Some, None, Option, codes}
+use Rattle.protocol.specs.Codes.{code_text}
 use Rattle.protocol.specs.declared.code.Code.{Code}
-use Rattle.protocol.specs.declared.code.Code.TheVariants as codes
+use Rattle.protocol.specs.declared.code.Code.TheVariants as code
 use Rattle.protocol.specs.declared.fault.Fault.{Fault}
 use Rattle.protocol.specs.declared.fault.Fault.TheVariants.{Ends, WrongType, UnknownKey, RepeatedKey, Trailing}
 use Rattle.protocol.specs.declared.refusal.Refusal.{Refusal}
@@ -43,14 +45,28 @@ code_of BadStoreRequest = None
 code_of StoreFull = None
 code_of BadBatch = None
 code_of OutboxFull = None
-code_of TooLarge = Some codes.TooLarge
-code_of (Unreadable fault) = Some codes.BadRequest
-code_of BadValue = Some codes.BadRequest
-code_of NoSuchTopic = Some codes.NotFound
-code_of HalfCreated = Some codes.NotFound
-code_of WrongFormat = Some codes.UnsupportedFormat
-code_of NameTaken = Some codes.Forbidden
-code_of MessagesDoNotFit = Some codes.Unavailable
-code_of NoRoom = Some codes.Unavailable
-code_of CounterSpent = Some codes.Unavailable
-code_of ForeignValue = Some codes.InternalError
+code_of TooLarge = Some code.TooLarge
+code_of (Unreadable fault) = Some code.BadRequest
+code_of BadValue = Some code.BadRequest
+code_of NoSuchTopic = Some code.NotFound
+code_of HalfCreated = Some code.NotFound
+code_of WrongFormat = Some code.UnsupportedFormat
+code_of NameTaken = Some code.Forbidden
+code_of MessagesDoNotFit = Some code.Unavailable
+code_of NoRoom = Some code.Unavailable
+code_of CounterSpent = Some code.Unavailable
+code_of ForeignValue = Some code.InternalError
+
+-- a code as it stands behind a refusal's number
+abbrev pub code_part : Option Code → List ℕ
+code_part None = []
+code_part (Some c) = codes " " ++ code_text c
+
+-- the fault as it stands behind a refusal's code
+abbrev pub fault_part : Refusal → List ℕ
+fault_part (Unreadable fault) = codes " fault=" ++ decimal (fault_number fault)
+fault_part r = []
+
+-- a refusal as it is told: its number, its code where it has one, and the fault inside
+abbrev pub refusal_text : Refusal → List ℕ
+refusal_text r = decimal (number_of r) ++ (code_part (code_of r) ++ fault_part r)

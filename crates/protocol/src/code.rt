@@ -1,6 +1,8 @@
 // Response codes of CoAP (RFC 7252, section 12.1.2), by name.
-ghost use Rattle.protocol.specs.Codes.{class_of, detail_of};
-ghost use Rattle.std.specs.Prelude.{◌≡◌};
+ghost use Rattle.protocol.specs.Codes.{class_of, code_text, detail_of};
+ghost use Rattle.std.specs.Prelude.{◌≡◌, Some};
+
+use std::fmt;
 
 #[derive(Clone, Copy, PartialEq, Eq, Debug)]
 pub enum Code {
@@ -47,5 +49,16 @@ impl Code {
             Code::TooLarge => 13,
             Code::UnsupportedFormat => 15,
         }
+    }
+}
+
+// A code as the standard writes it: class, point, detail in two digits.
+impl fmt::Display for Code {
+    ghost output = { λ c. Some (code_text c) };
+
+    fn fmt<W: fmt::Write>(&self, f: &mut fmt::Formatter<W>) -> fmt::Result {
+        let class = self.class();
+        let detail = self.detail();
+        write!(f, "{class}.{detail:02}")
     }
 }

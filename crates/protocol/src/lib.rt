@@ -3,10 +3,12 @@
 
 mod code;
 mod fault;
+mod limits;
 mod names;
 mod refusal;
 
 pub use code::Code;
 pub use fault::Fault;
-pub use names::{Handle, Number, data_address};
+pub use limits::MAX_SUBSCRIBERS;
+pub use names::{Handle, Number, data_address, hex_digit};
 pub use refusal::Refusal;

@@ -1,10 +1,12 @@
 // Why a call is refused: each refusal has a number and, where a client is told, a response code.
-ghost use Rattle.protocol.specs.Refusals.{number_of, code_of};
+ghost use Rattle.protocol.specs.Refusals.{number_of, code_of, refusal_text};
 ghost use Rattle.protocol.specs.declared.refusal.Refusal.TheVariants.{Unreadable};
-ghost use Rattle.std.specs.Prelude.{◌≡◌};
+ghost use Rattle.std.specs.Prelude.{◌≡◌, Some};
 
 use crate::code::Code;
 use crate::fault::Fault;
+use std::error::Error;
+use std::fmt;
 
 #[derive(Clone, Copy, PartialEq, Eq, Debug)]
 pub enum Refusal {
@@ -100,3 +102,22 @@ impl From<Fault> for Refusal {
         Refusal::Unreadable(fault)
     }
 }
+
+// A refusal as it is told: its number, its code where it has one, and the fault inside.
+impl fmt::Display for Refusal {
+    ghost output = { λ r. Some (refusal_text r) };
+
+    fn fmt<W: fmt::Write>(&self, f: &mut fmt::Formatter<W>) -> fmt::Result {
+        let number = self.number();
+        match (self.code(), *self) {
+            (None, _) => write!(f, "{number}"),
+            (Some(code), Refusal::Unreadable(fault)) => {
+                let fault = fault.number();
+                write!(f, "{number} {code} fault={fault}")
+            }
+            (Some(code), _) => write!(f, "{number} {code}"),
+        }
+    }
+}
+
+impl Error for Refusal {}

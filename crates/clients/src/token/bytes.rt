@@ -50,6 +50,7 @@ impl Token {
     pub fn same(&self, other: &Token) -> bool
         ensures { Decides result (token_bytes self.now ≡ token_bytes other.now) }
     {
+        // field by field: a proof knows a number's range where the number itself is read, and not from a derived ==
         self.len == other.len && self.bits == other.bits
     }
 }

@@ -1,17 +1,9 @@
-use Rattle.std.proofs.Common.{◌≡◌, ◌-◌, ◌%◌, ◌^◌, ◌≤◌, ◌++◌, length, take, replicate, ap, ◌∙◌, arith, rules}
+use Rattle.std.proofs.Common.{◌≡◌, ◌-◌, ◌≤◌, ◌++◌, length, take, replicate, ap, ◌∙◌, arith, rules}
 use Rattle.protocol.specs.Bytes.{be_bytes, be_number}
 use Rattle.protocol.proofs.Bytes.{number8, all_from_places}
 use Rattle.std.proofs.lemmas.Bool.Decides.{nat_tests}
-use Rattle.clients.proofs.Tokens.{length_padded, padded_zeros, padded_token}
+use Rattle.clients.proofs.Tokens.{length_padded, padded_token}
 use Rattle.clients.proofs.token.Token.new.Goals as goal
-
-pub invariant_of-result : goal.invariant_of-result
-invariant_of-result c =
-    let bs = c.args.bytes.now in
-    let short : length bs ≤ 8 = omega arith in
-    let bits : c.from_be_bytes-bits.result ≡ be_number (bs ++ replicate (8 - length bs) 0) =
-    c.from_be_bytes-bits.ensures ∙ number8 c.padded.result (ap length c.padded.ensures ∙ length_padded bs short) ∙ ap be_number c.padded.ensures in
-    record { short = short; zeros = ap (λ b. b % 256 ^ (8 - length bs)) bits ∙ padded_zeros bs short }
 
 pub returns : goal.returns
 returns c =
