@@ -25,13 +25,8 @@ mod tests {
         check_token(&rt, 1, [9, 0, 0, 0, 0, 0, 0, 0])?;
         check_token(&rt, 7, [9, 8, 7, 6, 5, 4, 3, 0])?;
         check_token(&rt, 8, [9, 8, 7, 6, 5, 4, 3, 2])?;
-        match Token::new(&BYTES) {
-            Ok(_) => Err(Fail::new("nine bytes are no token")),
-            Err(refusal) => {
-                assert_eq!(rt; refusal, Refusal::BadValue);
-                Ok(())
-            },
-        }
+        assert_eq!(rt; Token::new(&BYTES), Err(Refusal::BadValue));
+        Ok(())
     }
 
     // Zeros behind a token do not make it another's.

@@ -58,7 +58,7 @@ fn push_byte(text: &mut String, b: u8) -> Result<(), AllocError>
     Ok(())
 }
 
-// The lowercase digits of the bytes.
+// The lowercase digits of the bytes. Not the kit's `hex`: this file reads spaces too, and says what a digit is once, for both ways.
 pub fn encode(heap: Global, bytes: &[u8]) -> Result<String, AllocError>
     ensures { IfOk result (λ s. string_bytes s ≡ hex_text bytes.now) }
 {

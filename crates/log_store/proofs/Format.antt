@@ -1,4 +1,4 @@
--- What is read from the end of a log: the newest entry, whole and in its parts, and the log before it.
+-- What is read from the end of a log: the parts of the newest entry, and the log before it.
 use Rattle.std.proofs.Common.{◌≡◌, ℕ, zero, suc, ◌+◌, ◌-◌, ◌<◌, ◌≤◌, true, leb, List, [], ◌∷◌, ◌++◌, length, get_or, take, drop, sym, refl, ap, ◌∙◌, append_assoc, arith, length-append}
 use Rattle.protocol.proofs.Bytes.{number_be}
 use Rattle.protocol.specs.Bytes.{be_bytes, be_number}
@@ -58,7 +58,6 @@ pub record Top (bs : List ℕ) (end : ℕ) (e : Entry) (older : List Entry) : Ty
   pub room : length e.value + 7 ≤ end
   pub before : take (end - 7 - length e.value) bs ≡ encoded older
   pub value : take (length e.value) (drop (end - 7 - length e.value) bs) ≡ e.value
-  pub whole : take (length e.value + 7) (drop (end - 7 - length e.value) bs) ≡ entry_bytes e
 
 pub top_of : (bs : List ℕ) (end : ℕ) (e : Entry) (es : List Entry) → end ≤ length bs → take end bs ≡ encoded (e ∷ es) → fit e ≡ true → Top bs end e es
 top_of bs end e es l h f =
@@ -76,7 +75,6 @@ top_of bs end e es l h f =
       room = omega arith;
       before = ap (λ k. take k bs) m ∙ ap (take (length (encoded es))) split ∙ take_at (encoded es) (entry_bytes e ++ drop end bs) (length (encoded es)) refl;
       value = ap (take (length e.value)) (rest ∙ append_assoc e.value t (drop end bs)) ∙ take_at e.value (t ++ drop end bs) (length e.value) refl;
-      whole = ap (take (length e.value + 7)) rest ∙ take_at (entry_bytes e) (drop end bs) (length e.value + 7) (length-entry e);
     }
 
 -- as many entries as are asked for are read back

@@ -1,11 +1,11 @@
 -- What entries mean as a map: the newest of each key, and the map without a key where entries were squeezed out.
 use Rattle.std.proofs.Common.{◌≡◌, ℕ, ◌+◌, ◌*◌, ◌/◌, ◌<◌, ◌≤◌, Bool, true, false, cond, not, ◌&&◌, leb, ◌⊎◌, List, [], ◌∷◌, ◌++◌, length, is_some, Some, None, Option, sym, refl, ap, ◌∙◌, inl, inr, arith, length-append}
-use Rattle.std.proofs.lemmas.Bool.{cases_Bool, cond-true, cond-false, cond_both, and_parts, and_cases, and_from, le-leb, lt-leb, not-true, not-false}
+use Rattle.std.proofs.lemmas.Bool.{cases_Bool, cond-true, cond-false, cond_both, and_parts, and_cases, le-leb, lt-leb, not-true, not-false}
 use Rattle.std.proofs.lemmas.Bool.Decides.{nat_tests}
 use Rattle.store.specs.declared.key.Key.{Key}
 use Rattle.store.specs.Held.{Entry, Sound, full, look, proper, put, remove, same_key}
 use Rattle.store.proofs.Maps.{key-is, length-put, length-remove, look-put, look-remove, one_map, same_key_like, same_key_sym, sound-put, sound-remove}
-use Rattle.log_store.specs.Format.{Holds, all_fit, encoded, entry_bytes, fit}
+use Rattle.log_store.specs.Format.{all_fit, encoded, entry_bytes, fit}
 use Rattle.log_store.specs.Logs.{meaning, sifted, stays}
 use Rattle.log_store.specs.Memories.{with_entry}
 use Rattle.log_store.specs.Laws.{fit-first, fit_parts, fit-rest, sound-meaning}
@@ -187,23 +187,15 @@ room-sifted es k cap a p l f =
     let q : length (remove (meaning es) k) + 1 ≤ cap / 583 = grind (arith, nat_tests) in
     omega arith
 
--- the log with an entry more, where there is room
-pub with_room : (room : ℕ) (bs : List ℕ) (es : List Entry) (e : Entry) → Holds bs es → length bs + length e.value + 7 ≤ room → bs ++ entry_bytes e ≡ encoded (with_entry room es e)
-with_room room bs es e h l =
-    let b : leb (length (encoded es) + length (entry_bytes e)) room ≡ true = le-leb _ _ (omega (arith, ap length h.bytes, length-entry e)) in
-    ap (λ x. x ++ entry_bytes e) (sym h.bytes) ∙ ap (λ x. encoded x ++ entry_bytes e) (sym (cond-true _ es (sifted e.key true [] es) b))
+-- where there is room for an entry more, none is squeezed out
+pub with_room : (room : ℕ) (es : List Entry) (e : Entry) → length (encoded es) + length e.value + 7 ≤ room → e ∷ es ≡ with_entry room es e
+with_room room es e l =
+    ap (λ x. e ∷ x) (sym (cond-true _ es (sifted e.key true [] es) (le-leb _ _ (omega (arith, length-entry e)))))
 
--- and where there is none, and entries are squeezed out first
-pub with_squeeze : (room : ℕ) (bs xs : List ℕ) (es : List Entry) (e : Entry) → Holds bs es → room < length bs + length e.value + 7 → xs ≡ encoded (sifted e.key true [] es)
-    → xs ++ entry_bytes e ≡ encoded (with_entry room es e)
-with_squeeze room bs xs es e h l q =
-    let b : leb (length (encoded es) + length (entry_bytes e)) room ≡ false = lt-leb _ _ (omega (arith, ap length h.bytes, length-entry e)) in
-    ap (λ x. x ++ entry_bytes e) q ∙ ap (λ x. encoded x ++ entry_bytes e) (sym (cond-false _ es (sifted e.key true [] es) b))
-
-pub with_fit : (room : ℕ) (es : List Entry) (e : Entry) → all_fit es ≡ true → fit e ≡ true → all_fit (with_entry room es e) ≡ true
-with_fit room es e a f =
-    and_from (fit e) _ f
-    (cond_both (leb (length (encoded es) + length (entry_bytes e)) room) es (sifted e.key true [] es) (λ x. all_fit x ≡ true) (λ _. a) (λ _. sifted-fit e.key true es a))
+-- and where there is none, entries are squeezed out first
+pub with_squeeze : (room : ℕ) (es : List Entry) (e : Entry) → room < length (encoded es) + length e.value + 7 → e ∷ sifted e.key true [] es ≡ with_entry room es e
+with_squeeze room es e l =
+    ap (λ x. e ∷ x) (sym (cond-false _ es (sifted e.key true [] es) (lt-leb _ _ (omega (arith, length-entry e)))))
 
 -- an entry more sets its key
 pub meaning_with : (room : ℕ) (es : List Entry) (e : Entry) → all_fit es ≡ true → fit e ≡ true → meaning (with_entry room es e) ≡ put (meaning es) e.key e.value

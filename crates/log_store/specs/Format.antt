@@ -1,5 +1,5 @@
 -- The log's format: entries end to end, oldest first, each a value and then its trailer of 7 bytes, read back from the end.
-use Rattle.std.specs.Prelude.{◌≡◌, ℕ, zero, suc, ◌+◌, ◌-◌, Bool, true, cond, ◌&&◌, List, [], ◌∷◌, ◌++◌, length, take, drop, nat_le, nat_lt, slice_index}
+use Rattle.std.specs.Prelude.{◌≡◌, ℕ, zero, suc, ◌+◌, ◌-◌, Bool, true, ◌&&◌, List, [], ◌∷◌, ◌++◌, length, take, drop, nat_le, nat_lt, slice_index, if◌then◌else◌}
 use Rattle.protocol.specs.Bytes.{be_bytes, be_number}
 use Rattle.store.specs.declared.key.Key.{Key}
 use Rattle.store.specs.Held.{Entry, proper, value_limit}
@@ -35,7 +35,8 @@ entry_at bs end = record { key = key_at bs end; value = take (len_at bs end) (dr
 -- at most so many entries, read back from the end
 unfoldable pub parsed : ℕ → List ℕ → List Entry
 parsed zero bs = []
-parsed (suc f) bs = cond (nat_le (len_at bs (length bs) + 7) (length bs)) (entry_at bs (length bs) ∷ parsed f (take (length bs - 7 - len_at bs (length bs)) bs)) []
+parsed (suc f) bs =
+    if nat_le (len_at bs (length bs) + 7) (length bs) then entry_at bs (length bs) ∷ parsed f (take (length bs - 7 - len_at bs (length bs)) bs) else []
 
 -- the entries of a log's bytes, newest first
 unfoldable pub entries : List ℕ → List Entry

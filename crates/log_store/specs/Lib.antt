@@ -1,3 +1,4 @@
+pub mod Entries
 pub mod Format
 pub mod Laws
 pub mod Log

@@ -2,12 +2,12 @@
 #![tactic(auto)]
 
 mod as_store;
+mod entries;
 mod held;
 mod lend;
 mod memory;
-mod moves;
 mod sift;
 mod trailer;
-mod walk;
 
+pub use held::LogStore;
 pub use lend::with_log;

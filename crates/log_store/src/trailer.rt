@@ -1,5 +1,5 @@
-// The trailer of an entry: written after the entry's value, and read from its end.
-ghost use Rattle.std.specs.Prelude.{◌≡◌, ◌≤◌, length};
+// The trailer of an entry: written after the entry's value, and read from there.
+ghost use Rattle.std.specs.Prelude.{◌≡◌};
 ghost use Rattle.log_store.specs.Format.{key_at, len_at, trailer as trailer_of};
 
 use protocol::Handle;
@@ -12,36 +12,30 @@ pub const TRAILER: usize = 7;
 #[derive(Clone, Copy)]
 pub struct Trailer {
     pub key: Key,
+    // a number, as the bytes have it: the value stands before them
     pub len: usize,
 }
 
 // The bytes of a trailer.
-pub(crate) fn write(key: Key, len: u16) -> [u8; 7]
+pub(crate) fn write(key: Key, len: u16) -> [u8; TRAILER]
     ensures { result ≡ trailer_of key len }
 {
-    let h = key.handle.0.to_be_bytes();
-    let n = len.to_be_bytes();
-    [h[0], h[1], h[2], h[3], key.part, n[0], n[1]]
+    let [a, b, c, d] = key.handle.0.to_be_bytes();
+    let [high, low] = len.to_be_bytes();
+    [a, b, c, d, key.part, high, low]
 }
 
-// The trailer that ends at `end`.
-pub(crate) fn read(bytes: &[u8], end: usize) -> Trailer
-    requires { (7 ≤ end) × (end ≤ length bytes.now) }
-    ensures key { result.key ≡ key_at bytes.now end }
-    ensures len { result.len ≡ len_at bytes.now end }
+// What a trailer's bytes say.
+pub(crate) fn read(trailer: &[u8; TRAILER]) -> Trailer
+    ensures key { result.key ≡ key_at trailer.now 7 }
+    ensures len { result.len ≡ len_at trailer.now 7 }
 {
-    let handle = u32::from_be_bytes([
-        bytes[end - 7],
-        bytes[end - 6],
-        bytes[end - 5],
-        bytes[end - 4],
-    ]);
-    let len = u16::from_be_bytes([bytes[end - 2], bytes[end - 1]]);
+    let [a, b, c, d, part, high, low] = *trailer;
     Trailer {
         key: Key {
-            handle: Handle(handle),
-            part: bytes[end - 3],
+            handle: Handle(u32::from_be_bytes([a, b, c, d])),
+            part,
         },
-        len: len as usize,
+        len: usize::from(u16::from_be_bytes([high, low])),
     }
 }

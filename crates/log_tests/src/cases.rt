@@ -10,61 +10,51 @@ pub struct Put {
     pub answer: Result<(), Refusal>,
 }
 
-// A memory, whether it is enough, and how many keys it takes with the longest values.
+// A memory, and how many keys it takes with the longest values, or why it is refused.
 #[derive(Clone, Copy)]
 pub struct Room {
     pub len: usize,
-    pub answer: Result<(), Refusal>,
-    pub keys: u32,
+    pub keys: Result<u32, Refusal>,
 }
 
-const SHORT: Result<(), Refusal> = Err(Refusal::ShortMemory);
+const SHORT: Result<u32, Refusal> = Err(Refusal::ShortMemory);
 
 pub static ROOMS: [Room; 9] = [
     Room {
         len: 0,
-        answer: SHORT,
-        keys: 0,
+        keys: SHORT,
     },
     Room {
         len: 1,
-        answer: SHORT,
-        keys: 0,
+        keys: SHORT,
     },
     Room {
         len: 583,
-        answer: SHORT,
-        keys: 0,
+        keys: SHORT,
     },
     Room {
         len: 1165,
-        answer: SHORT,
-        keys: 0,
+        keys: SHORT,
     },
     Room {
         len: 1166,
-        answer: Ok(()),
-        keys: 2,
+        keys: Ok(2),
     },
     Room {
         len: 1167,
-        answer: Ok(()),
-        keys: 2,
+        keys: Ok(2),
     },
     Room {
         len: 1748,
-        answer: Ok(()),
-        keys: 2,
+        keys: Ok(2),
     },
     Room {
         len: 1749,
-        answer: Ok(()),
-        keys: 3,
+        keys: Ok(3),
     },
     Room {
         len: 1750,
-        answer: Ok(()),
-        keys: 3,
+        keys: Ok(3),
     },
 ];
 

@@ -5,8 +5,7 @@ use Rattle.std.proofs.lemmas.Bool.{cond-true, cond-false, cond_both, lt-ltb, le-
 use Rattle.protocol.specs.Bytes.{be_bytes, be_number}
 use Rattle.protocol.proofs.Bytes.{length_be, number_be}
 use Rattle.protocol.specs.declared.fault.Fault.{Fault}
-use Rattle.maps.specs.declared.head.Head.{Head}
-use Rattle.maps.specs.Heads.{Got, long_head, head_of, head_bytes}
+use Rattle.maps.specs.Heads.{Head, Got, long_head, head_of, head_bytes}
 
 -- a head that was read, and what stands behind it
 abbrev pub got_head : ℕ → ℕ → List ℕ → Result (Got Head) Fault

@@ -1,5 +1,5 @@
 -- How long heads, entries and whole maps are in their written form.
-use Rattle.std.proofs.Common.{◌≡◌, ℕ, ◌+◌, ◌^◌, ◌≤◌, Bool, true, false, cond, ltb, List, ◌++◌, length, Some, None, Option, sym, refl, ap, ◌∙◌, arith, length-append}
+use Rattle.std.proofs.Common.{◌≡◌, ℕ, ◌+◌, ◌^◌, ◌≤◌, Bool, true, false, cond, ltb, List, ◌++◌, length, Some, None, refl, ap, ◌∙◌, arith, length-append}
 use Rattle.std.proofs.lemmas.Bool.{cond-true, lt-ltb}
 use Rattle.std.proofs.lemmas.Bool.Decides.{nat_tests}
 use Rattle.maps.specs.Heads.{head_bytes}
@@ -34,15 +34,6 @@ length-date_of k n =
     ∙ ap (λ l. l + length (head_bytes 6 1 ++ head_bytes 0 n)) (length-key k)
     ∙ ap (λ l. 1 + l) (length-append (head_bytes 6 1) (head_bytes 0 n))
 
--- the key does not change an entry's length
-pub length_text : (k : Key) (o : Option (List ℕ)) → length (text_entry k o) ≡ length (text_entry Name o)
-length_text k None = refl
-length_text k (Some t) = length-text_of k t ∙ sym (length-text_of Name t)
-
-pub length-number : (k : Key) (o : Option ℕ) → length (number_entry k o) ≡ length (number_entry ContentFormat o)
-length-number k None = refl
-length-number k (Some n) = length-number_of k n ∙ sym (length-number_of ContentFormat n)
-
 one_if_le : (b : Bool) → one_if b ≤ 1
 one_if_le true = omega arith
 one_if_le false = omega arith
@@ -69,17 +60,6 @@ length-written p =
     ∙ ap (λ n. n + length (written_entries p)) (length_count p)
     ∙ ap (λ n. 1 + n) (sum (text_entry Name p.name) (text_entry DataAddress p.data_address) (text_entry ResourceType p.resource_type) (number_entry ContentFormat p.content_format) (text_entry TopicType p.topic_type) (date_entry Expiration p.expiration) (number_entry MaxSubscribers p.max_subscribers) (number_entry ObserverCheck p.observer_check))
 
--- the same from the lengths of its entries, with any key in place of each
-pub length_from : (p : Props) (a b c d e f g h : ℕ)
-    → a ≡ length (text_entry Name p.name) → b ≡ length (text_entry Name p.data_address) → c ≡ length (text_entry Name p.resource_type) → d ≡ length (text_entry Name p.topic_type)
-    → e ≡ length (number_entry ContentFormat p.content_format) → f ≡ length (number_entry ContentFormat p.max_subscribers) → g ≡ length (number_entry ContentFormat p.observer_check)
-    → h ≡ length (date_entry Expiration p.expiration) → 1 + (a + b + c + d) + (e + f + g) + h ≡ length (written p)
-length_from p a b c d e f g h ha hb hc hd he hf hg hh =
-    omega (arith, length-written p, length_text DataAddress p.data_address, length_text ResourceType p.resource_type, length_text TopicType p.topic_type, length-number MaxSubscribers p.max_subscribers, length-number ObserverCheck p.observer_check)
-
 -- what a length tells that is given only where it fits 64 bits
-pub none_from_fits : (n : ℕ) → None ≡ cond (ltb n (2 ^ 64)) (Some n) None → 2 ^ 64 ≤ n
-none_from_fits n e = grind (arith, nat_tests)
-
 pub some_from_fits : (n k : ℕ) → Some k ≡ cond (ltb n (2 ^ 64)) (Some n) None → k ≡ n
 some_from_fits n k e = grind (arith, nat_tests)

@@ -3,3 +3,4 @@ pub mod Heads
 pub mod Lengths
 pub mod Reading
 pub mod Largest
+pub mod Sinks

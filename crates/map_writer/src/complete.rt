@@ -3,19 +3,17 @@ ghost use Rattle.std.specs.Prelude.{◌≡◌};
 ghost use Rattle.maps.specs.Maps.{meant, with_data_address, with_defaults};
 
 use maps::Properties;
-
-// How many subscribers a topic has at most where nothing is said.
-const MAX_SUBSCRIBERS: u64 = 100;
+use protocol::MAX_SUBSCRIBERS;
 
 // The seconds between two checks of an observer where nothing is said: a day.
 const OBSERVER_CHECK: u64 = 86_400;
 
 // The properties with max-subscribers and observer-check where they are not given.
-pub fn with_defaults<'a>(p: Properties<'a>) -> Properties<'a>
+pub fn with_defaults(p: Properties<'_>) -> Properties<'_>
     ensures answer { meant result ≡ with_defaults (meant p.entry) }
 {
     Properties {
-        max_subscribers: Some(p.max_subscribers.unwrap_or(MAX_SUBSCRIBERS)),
+        max_subscribers: Some(p.max_subscribers.unwrap_or(MAX_SUBSCRIBERS as u64)),
         observer_check: Some(p.observer_check.unwrap_or(OBSERVER_CHECK)),
         ..p
     }

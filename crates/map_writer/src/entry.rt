@@ -1,86 +1,75 @@
-// Entries of a map: a key and its value, written where the value is given.
-ghost use Rattle.std.specs.Prelude.{◌≡◌, ◌+◌, ◌≤◌, length};
+// Entries of a map: heads, and keys with their values where these are given.
+ghost use Rattle.std.specs.Prelude.{◌≡◌, ◌∷◌, length};
 ghost use Rattle.std.specs.Option.{option_map};
-ghost use Rattle.map_writer.specs.Buffers.{overlaid};
+ghost use Rattle.maps.specs.Heads.{head_bytes, major_number};
 ghost use Rattle.maps.specs.Laws.{Num, Text};
-ghost use Rattle.maps.specs.Maps.{key_number, text_entry, number_entry, date_entry};
+ghost use Rattle.maps.specs.Maps.{text_entry, number_entry, date_entry};
 
-use crate::buffer::{put_bytes, put_head};
-use maps::Key;
+use crate::sink::Sink;
+use maps::{EPOCH_SECONDS, Key, Major};
 
-// Major types of data items.
-pub(crate) const UNSIGNED: u8 = 0;
-
-pub(crate) const TEXT: u8 = 3;
-
-pub(crate) const MAP: u8 = 5;
-
-pub(crate) const TAG: u8 = 6;
-
-// The tag of a number of seconds since 1970.
-const EPOCH_DATE: u64 = 1;
-
-fn number(key: Key) -> u64
-    ensures { result ≡ key_number key }
+// A head whose argument stands in bytes of its own behind the first byte.
+fn put_long<S: Sink>(sink: &mut S, first: u8, argument: &[u8])
+    requires { S.Fits sink.old (first ∷ argument.now) }
+    ensures { S.Takes sink.old (first ∷ argument.now) sink.new }
 {
-    match key {
-        Key::Name => 0,
-        Key::DataAddress => 1,
-        Key::ResourceType => 2,
-        Key::ContentFormat => 3,
-        Key::TopicType => 4,
-        Key::Expiration => 5,
-        Key::MaxSubscribers => 6,
-        Key::ObserverCheck => 7,
+    sink.put(&[first]);
+    sink.put(argument);
+}
+
+// The shortest head with this major type and argument.
+pub(crate) fn put_head<S: Sink>(sink: &mut S, major: Major, argument: u64)
+    requires { S.Fits sink.old (head_bytes (major_number major) argument) }
+    ensures { S.Takes sink.old (head_bytes (major_number major) argument) sink.new }
+{
+    let kind = major as u8 * 32;
+    if argument < 24 {
+        sink.put(&[kind + argument as u8]);
+    } else if argument < 256 {
+        put_long(sink, kind + 24, &(argument as u8).to_be_bytes());
+    } else if argument < 65_536 {
+        put_long(sink, kind + 25, &(argument as u16).to_be_bytes());
+    } else if argument < 4_294_967_296 {
+        put_long(sink, kind + 26, &(argument as u32).to_be_bytes());
+    } else {
+        put_long(sink, kind + 27, &argument.to_be_bytes());
     }
 }
 
-// A key and its text; where they end.
-pub(crate) fn put_text(out: &mut [u8], at: usize, key: Key, text: Option<&[u8]>) -> usize
-    requires { at + length (text_entry key (option_map (λ x. x.now) text)) ≤ length out.old }
-    ensures answer { result ≡ at + length (text_entry key (option_map (λ x. x.now) text.entry)) }
-    ensures buffer { out.new ≡ overlaid out.old at (text_entry key (option_map (λ x. x.now) text.entry)) }
+// A key and its text.
+pub(crate) fn put_text<S: Sink>(sink: &mut S, key: Key, text: Option<&[u8]>)
+    requires { S.Fits sink.old (text_entry key (option_map (λ x. x.now) text)) }
+    ensures entry { S.Takes sink.old (text_entry key (option_map (λ x. x.now) text.entry)) sink.new }
     ensures value { Text (option_map (λ x. x.now) text.entry) }
 {
-    match text {
-        None => at,
-        Some(bytes) => {
-            let value = put_head(out, at, UNSIGNED, number(key));
-            let start = put_head(out, value, TEXT, bytes.len() as u64);
-            put_bytes(out, start, bytes)
-        }
+    if let Some(bytes) = text {
+        put_head(sink, Major::Unsigned, u64::from(key));
+        put_head(sink, Major::Text, bytes.len() as u64);
+        sink.put(bytes);
     }
 }
 
-// A key and its number; where they end.
-pub(crate) fn put_number(out: &mut [u8], at: usize, key: Key, value: Option<u64>) -> usize
-    requires { at + length (number_entry key value) ≤ length out.old }
-    ensures answer { result ≡ at + length (number_entry key value) }
-    ensures buffer { out.new ≡ overlaid out.old at (number_entry key value) }
-    ensures value { Num value }
+// A key and its number.
+pub(crate) fn put_number<S: Sink>(sink: &mut S, key: Key, number: Option<u64>)
+    requires { S.Fits sink.old (number_entry key number) }
+    ensures entry { S.Takes sink.old (number_entry key number) sink.new }
+    ensures value { Num number }
 {
-    match value {
-        None => at,
-        Some(n) => {
-            let start = put_head(out, at, UNSIGNED, number(key));
-            put_head(out, start, UNSIGNED, n)
-        }
+    if let Some(n) = number {
+        put_head(sink, Major::Unsigned, u64::from(key));
+        put_head(sink, Major::Unsigned, n);
     }
 }
 
-// A key and its date, a tagged number; where they end.
-pub(crate) fn put_date(out: &mut [u8], at: usize, key: Key, value: Option<u64>) -> usize
-    requires { at + length (date_entry key value) ≤ length out.old }
-    ensures answer { result ≡ at + length (date_entry key value) }
-    ensures buffer { out.new ≡ overlaid out.old at (date_entry key value) }
-    ensures value { Num value }
+// A key and its date, a tagged number.
+pub(crate) fn put_date<S: Sink>(sink: &mut S, key: Key, seconds: Option<u64>)
+    requires { S.Fits sink.old (date_entry key seconds) }
+    ensures entry { S.Takes sink.old (date_entry key seconds) sink.new }
+    ensures value { Num seconds }
 {
-    match value {
-        None => at,
-        Some(n) => {
-            let tag = put_head(out, at, UNSIGNED, number(key));
-            let start = put_head(out, tag, TAG, EPOCH_DATE);
-            put_head(out, start, UNSIGNED, n)
-        }
+    if let Some(n) = seconds {
+        put_head(sink, Major::Unsigned, u64::from(key));
+        put_head(sink, Major::Tag, EPOCH_SECONDS);
+        put_head(sink, Major::Unsigned, n);
     }
 }

@@ -3,10 +3,11 @@
 
 mod buffer;
 mod complete;
+mod count;
 mod entry;
-mod len;
+mod form;
+mod sink;
 mod writer;
 
 pub use complete::{addressed, with_defaults};
-pub use len::written_len;
-pub use writer::write;
+pub use writer::{write, written_len};

@@ -1,5 +1,4 @@
 // Defaults where nothing is given, and the data address.
-use crate::helpers::{NOTHING, same};
 use map_writer::{addressed, with_defaults};
 use maps::Properties;
 
@@ -26,14 +25,14 @@ fn defaults(rt: HostRuntime) {
             name: Some(b"a"),
             max_subscribers: row.0,
             observer_check: row.1,
-            ..NOTHING
+            ..Properties::default()
         };
         let completed = Properties {
             max_subscribers: Some(row.2),
             observer_check: Some(row.3),
             ..p
         };
-        same(&rt, i, &with_defaults(p), &completed);
+        assert_eq!(rt; with_defaults(p), completed, "row {i}");
     }
 }
 
@@ -41,23 +40,21 @@ fn defaults(rt: HostRuntime) {
 fn addresses(rt: HostRuntime) {
     let p = Properties {
         name: Some(b"a"),
-        ..NOTHING
+        ..Properties::default()
     };
     let q = Properties {
         data_address: Some(b"/ps/data/00000001"),
         ..p
     };
-    same(&rt, 0, &addressed(p, b"/ps/data/00000001"), &q);
-    same(
-        &rt,
-        1,
-        &addressed(
+    assert_eq!(rt; addressed(p, b"/ps/data/00000001"), q);
+    assert_eq!(rt;
+        addressed(
             Properties {
                 data_address: Some(b"/old"),
                 ..p
             },
             b"/ps/data/00000001",
         ),
-        &q,
+        q
     );
 }

@@ -1,5 +1,5 @@
 // Numbers at every limit of a head, under each key that has one.
-use crate::helpers::{NOTHING, has_bytes};
+use crate::helpers::has_bytes;
 use maps::Properties;
 
 // A number, and the map with it as content format, as date of expiration, as max-subscribers and as observer check.
@@ -104,7 +104,7 @@ fn content_formats(rt: HostRuntime) {
     for (i, row) in ROWS.iter().enumerate() {
         let p = Properties {
             content_format: Some(row.0),
-            ..NOTHING
+            ..Properties::default()
         };
         has_bytes(&rt, i, &p, row.1);
     }
@@ -115,7 +115,7 @@ fn expirations(rt: HostRuntime) {
     for (i, row) in ROWS.iter().enumerate() {
         let p = Properties {
             expiration: Some(row.0),
-            ..NOTHING
+            ..Properties::default()
         };
         has_bytes(&rt, i, &p, row.2);
     }
@@ -126,7 +126,7 @@ fn most_subscribers(rt: HostRuntime) {
     for (i, row) in ROWS.iter().enumerate() {
         let p = Properties {
             max_subscribers: Some(row.0),
-            ..NOTHING
+            ..Properties::default()
         };
         has_bytes(&rt, i, &p, row.3);
     }
@@ -137,7 +137,7 @@ fn observer_checks(rt: HostRuntime) {
     for (i, row) in ROWS.iter().enumerate() {
         let p = Properties {
             observer_check: Some(row.0),
-            ..NOTHING
+            ..Properties::default()
         };
         has_bytes(&rt, i, &p, row.4);
     }

@@ -1,5 +1,5 @@
 // Texts at every limit of a head, under each key that has one.
-use crate::helpers::{BEFORE, NOTHING, fits};
+use crate::helpers::{BEFORE, fits};
 use maps::Properties;
 use std::process::Abort;
 
@@ -26,7 +26,7 @@ const ROWS: [Row; 10] = [
     Row(65536, b"\x7a\x00\x01\x00\x00"),
 ];
 
-// A map with one text has a head, the key, the text's head and the text.
+// A map with one text has a head, the key, the text's head and the text. The key is the byte that must stand there.
 fn framed(rt: &impl Abort, row: usize, p: &Properties<'_>, key: u8, head: &[u8], text: &[u8]) {
     let mut out = [BEFORE; ROOM];
     assert!(rt; head.len() <= 9 && text.len() <= LONGEST, "row {row}");
@@ -43,22 +43,22 @@ fn framed(rt: &impl Abort, row: usize, p: &Properties<'_>, key: u8, head: &[u8],
 fn each(rt: &impl Abort, row: usize, text: &[u8], head: &[u8]) {
     let name = Properties {
         name: Some(text),
-        ..NOTHING
+        ..Properties::default()
     };
     framed(rt, row, &name, 0, head, text);
     let address = Properties {
         data_address: Some(text),
-        ..NOTHING
+        ..Properties::default()
     };
     framed(rt, row, &address, 1, head, text);
     let resource = Properties {
         resource_type: Some(text),
-        ..NOTHING
+        ..Properties::default()
     };
     framed(rt, row, &resource, 2, head, text);
     let topic = Properties {
         topic_type: Some(text),
-        ..NOTHING
+        ..Properties::default()
     };
     framed(rt, row, &topic, 4, head, text);
 }

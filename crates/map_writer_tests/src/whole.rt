@@ -1,5 +1,5 @@
 // Whole maps: the empty one, one as a client sees it, one with every key, and the largest of a topic.
-use crate::helpers::{BEFORE, NOTHING, fits, has_bytes};
+use crate::helpers::{BEFORE, fits, has_bytes};
 use map_writer::write;
 use maps::Properties;
 
@@ -7,7 +7,7 @@ use maps::Properties;
 fn bare(content_format: Option<u64>) -> Properties<'static> {
     Properties {
         content_format,
-        ..NOTHING
+        ..Properties::default()
     }
 }
 
@@ -27,7 +27,7 @@ fn as_a_client_sees_it(rt: HostRuntime) {
         resource_type: Some(b"core.ps.data"),
         max_subscribers: Some(100),
         observer_check: Some(86400),
-        ..NOTHING
+        ..Properties::default()
     };
     let bytes =
         b"\xa5\x00\x61a\x01\x71/ps/data/00000001\x02\x6ccore.ps.data\x06\x18\x64\x07\x1a\x00\x01\x51\x80";

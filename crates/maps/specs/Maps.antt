@@ -1,6 +1,6 @@
 -- Property maps: which properties the bytes of a map give, or which fault, and the one form in which properties are written.
 use Rattle.std.specs.Prelude.{ℕ, zero, suc, ◌+◌, Bool, true, false, cond, ◌&&◌, List, [], ◌∷◌, ◌++◌, length, take, drop, is_some, Some, None, Ok, Err, Option, Result, ◌==◌, nat_le, nat_lt}
-use Rattle.std.specs.Option.{option_map, unwrap_or}
+use Rattle.std.specs.Option.{ok_or, option_map, unwrap_or}
 use Rattle.protocol.specs.declared.fault.Fault.{Fault}
 use Rattle.protocol.specs.declared.fault.Fault.TheVariants.{Ends, WrongType, UnknownKey, RepeatedKey, Trailing}
 use Rattle.maps.specs.declared.properties.Key.{Key}
@@ -90,6 +90,10 @@ key_of n =
     (cond (n == 7) (Some ObserverCheck)
     None)))))))
 
+-- the key of a number, or that it is unknown
+abbrev pub known : ℕ → Result Key Fault
+known n = ok_or (key_of n) UnknownKey
+
 -- whether a key is given
 abbrev pub has : Props → Key → Bool
 has p Name = is_some p.name
@@ -103,107 +107,35 @@ has p ObserverCheck = is_some p.observer_check
 
 -- the name given, the others as they were
 abbrev pub with_name : Props → List ℕ → Props
-with_name p v = record {
-  name = Some v;
-  data_address = p.data_address;
-  resource_type = p.resource_type;
-  content_format = p.content_format;
-  topic_type = p.topic_type;
-  expiration = p.expiration;
-  max_subscribers = p.max_subscribers;
-  observer_check = p.observer_check;
-}
+with_name p v = record p { name = Some v }
 
 -- the data address given, the others as they were
 abbrev pub with_data_address : Props → List ℕ → Props
-with_data_address p v = record {
-  name = p.name;
-  data_address = Some v;
-  resource_type = p.resource_type;
-  content_format = p.content_format;
-  topic_type = p.topic_type;
-  expiration = p.expiration;
-  max_subscribers = p.max_subscribers;
-  observer_check = p.observer_check;
-}
+with_data_address p v = record p { data_address = Some v }
 
 -- the resource type given, the others as they were
 abbrev pub with_resource_type : Props → List ℕ → Props
-with_resource_type p v = record {
-  name = p.name;
-  data_address = p.data_address;
-  resource_type = Some v;
-  content_format = p.content_format;
-  topic_type = p.topic_type;
-  expiration = p.expiration;
-  max_subscribers = p.max_subscribers;
-  observer_check = p.observer_check;
-}
+with_resource_type p v = record p { resource_type = Some v }
 
 -- the content format given, the others as they were
 abbrev pub with_content_format : Props → ℕ → Props
-with_content_format p v = record {
-  name = p.name;
-  data_address = p.data_address;
-  resource_type = p.resource_type;
-  content_format = Some v;
-  topic_type = p.topic_type;
-  expiration = p.expiration;
-  max_subscribers = p.max_subscribers;
-  observer_check = p.observer_check;
-}
+with_content_format p v = record p { content_format = Some v }
 
 -- the topic type given, the others as they were
 abbrev pub with_topic_type : Props → List ℕ → Props
-with_topic_type p v = record {
-  name = p.name;
-  data_address = p.data_address;
-  resource_type = p.resource_type;
-  content_format = p.content_format;
-  topic_type = Some v;
-  expiration = p.expiration;
-  max_subscribers = p.max_subscribers;
-  observer_check = p.observer_check;
-}
+with_topic_type p v = record p { topic_type = Some v }
 
 -- the expiration date given, the others as they were
 abbrev pub with_expiration : Props → ℕ → Props
-with_expiration p v = record {
-  name = p.name;
-  data_address = p.data_address;
-  resource_type = p.resource_type;
-  content_format = p.content_format;
-  topic_type = p.topic_type;
-  expiration = Some v;
-  max_subscribers = p.max_subscribers;
-  observer_check = p.observer_check;
-}
+with_expiration p v = record p { expiration = Some v }
 
 -- the most subscribers given, the others as they were
 abbrev pub with_max_subscribers : Props → ℕ → Props
-with_max_subscribers p v = record {
-  name = p.name;
-  data_address = p.data_address;
-  resource_type = p.resource_type;
-  content_format = p.content_format;
-  topic_type = p.topic_type;
-  expiration = p.expiration;
-  max_subscribers = Some v;
-  observer_check = p.observer_check;
-}
+with_max_subscribers p v = record p { max_subscribers = Some v }
 
 -- the observer check given, the others as they were
 abbrev pub with_observer_check : Props → ℕ → Props
-with_observer_check p v = record {
-  name = p.name;
-  data_address = p.data_address;
-  resource_type = p.resource_type;
-  content_format = p.content_format;
-  topic_type = p.topic_type;
-  expiration = p.expiration;
-  max_subscribers = p.max_subscribers;
-  observer_check = Some v;
-}
+with_observer_check p v = record p { observer_check = Some v }
 
 -- the value of a key, added to what was given before it
 abbrev pub value_of : Key → Props → List ℕ → Result (Got Props) Fault

@@ -1,16 +1,11 @@
--- What a reader has before it, and what the results of reading mean.
-use Rattle.std.specs.Prelude.{ℕ, cond, List, length, take, drop, Ok, Err, Result, nat_le}
+-- What the results of reading mean.
+use Rattle.std.specs.Prelude.{ℕ, if◌then◌else◌, List, length, take, drop, Ok, Err, Result, nat_le}
 use Rattle.std.specs.Borrow.{Bor}
 use Rattle.protocol.specs.declared.fault.Fault.{Fault}
 use Rattle.protocol.specs.declared.fault.Fault.TheVariants.{Ends}
-use Rattle.maps.specs.declared.reader.Reader.{Reader}
 use Rattle.maps.specs.declared.properties.Properties.{Properties}
 use Rattle.maps.specs.Heads.{Got}
 use Rattle.maps.specs.Maps.{Props, meant}
-
--- the bytes that are still to be read
-abbrev pub left : Reader → List ℕ
-left r = r.rest.now
 
 -- the outcome of a step: what the value read means, with the bytes that are left behind it, or the fault
 abbrev pub outcome : {X Y : Type 0} → (X → Y) → Result X Fault → List ℕ → Result (Got Y) Fault
@@ -18,9 +13,9 @@ outcome mean (Ok x) rest = Ok (record { item = mean x; rest = rest })
 outcome mean (Err e) rest = Err e
 
 -- the same, where the code gives the bytes behind what was read
-abbrev pub parted : {X : Type 0} → Result (X × Bor (List ℕ)) Fault → Result (Got X) Fault
-parted (Ok p) = Ok (record { item = p.0; rest = p.1.now })
-parted (Err e) = Err e
+abbrev pub parted : {X Y : Type 0} → (X → Y) → Result (X × Bor (List ℕ)) Fault → Result (Got Y) Fault
+parted mean (Ok p) = Ok (record { item = mean p.0; rest = p.1.now })
+parted mean (Err e) = Err e
 
 -- a value that means itself
 abbrev pub itself : {X : Type 0} → X → X
@@ -28,9 +23,9 @@ itself x = x
 
 -- the next n bytes, unless there are fewer
 abbrev pub taken : ℕ → List ℕ → Result (Got (List ℕ)) Fault
-taken n bs = cond (nat_le n (length bs)) (Ok (record { item = take n bs; rest = drop n bs })) (Err Ends)
+taken n bs = if nat_le n (length bs) then Ok (record { item = take n bs; rest = drop n bs }) else Err Ends
 
--- what the properties read mean, or the fault
-abbrev pub told : Result Properties Fault → Result Props Fault
+-- what the properties of an answer mean, or the error
+abbrev pub told : {E : Type 0} → Result Properties E → Result Props E
 told (Ok p) = Ok (meant p)
 told (Err e) = Err e

@@ -1,26 +1,20 @@
 // Properties read from the bytes of a map, in one pass from the front; the first fault ends it.
 ghost use Rattle.std.specs.Prelude.{◌≡◌};
-ghost use Rattle.maps.specs.Maps.{meant, nothing, item_of, number_of, text_of, date_of, value_of, entry_of, entries_of, read_map};
-ghost use Rattle.maps.specs.Reading.{left, outcome, itself, told};
+ghost use Rattle.maps.specs.Heads.{major_number};
+ghost use Rattle.maps.specs.Maps.{meant, item_of, number_of, text_of, date_of, value_of, entry_of, entries_of, read_map};
+ghost use Rattle.maps.specs.Reading.{outcome, itself, told};
 
+use crate::head::Major;
 use crate::properties::{Key, Properties};
 use crate::reader::Reader;
 use protocol::Fault;
 
-const UNSIGNED: u8 = 0;
-
-const TEXT: u8 = 3;
-
-const MAP: u8 = 5;
-
-const TAG: u8 = 6;
-
-// The tag of a date in seconds.
-const SECONDS: u64 = 1;
+// The tag of a date, which counts its seconds from 1970.
+pub const EPOCH_SECONDS: u64 = 1;
 
 // The argument of an item of the given major type.
-fn item(reader: &mut Reader<'_>, major: u8) -> Result<u64, Fault>
-    ensures { outcome itself result (left reader.new) ≡ item_of major (left reader.old) }
+fn item(reader: &mut Reader<'_>, major: Major) -> Result<u64, Fault>
+    ensures { outcome itself result reader.new ≡ item_of (major_number major) reader.old }
 {
     let head = reader.head()?;
     if head.major != major {
@@ -30,23 +24,23 @@ fn item(reader: &mut Reader<'_>, major: u8) -> Result<u64, Fault>
 }
 
 fn number(reader: &mut Reader<'_>) -> Result<u64, Fault>
-    ensures { outcome itself result (left reader.new) ≡ number_of (left reader.old) }
+    ensures { outcome itself result reader.new ≡ number_of reader.old }
 {
-    item(reader, UNSIGNED)
+    item(reader, Major::Unsigned)
 }
 
 fn text<'a>(reader: &mut Reader<'a>) -> Result<&'a [u8], Fault>
-    ensures { outcome (λ x. x.now) result (left reader.new) ≡ text_of (left reader.old) }
+    ensures { outcome (λ x. x.now) result reader.new ≡ text_of reader.old }
 {
-    let len = item(reader, TEXT)?;
+    let len = item(reader, Major::Text)?;
     reader.text(len)
 }
 
 // A date: its tag, and an unsigned number.
 fn date(reader: &mut Reader<'_>) -> Result<u64, Fault>
-    ensures { outcome itself result (left reader.new) ≡ date_of (left reader.old) }
+    ensures { outcome itself result reader.new ≡ date_of reader.old }
 {
-    if item(reader, TAG)? != SECONDS {
+    if item(reader, Major::Tag)? != EPOCH_SECONDS {
         return Err(Fault::WrongType);
     }
     number(reader)
@@ -58,7 +52,7 @@ fn value<'a>(
     key: Key,
     before: Properties<'a>,
 ) -> Result<Properties<'a>, Fault>
-    ensures { outcome meant result (left reader.new) ≡ value_of key (meant before.entry) (left reader.old) }
+    ensures { outcome meant result reader.new ≡ value_of key (meant before.entry) reader.old }
 {
     match key {
         Key::Name => Ok(Properties {
@@ -98,35 +92,26 @@ fn value<'a>(
 
 // A key and its value, added to what was read before them.
 fn entry<'a>(reader: &mut Reader<'a>, before: Properties<'a>) -> Result<Properties<'a>, Fault>
-    ensures { outcome meant result (left reader.new) ≡ entry_of (meant before.entry) (left reader.old) }
+    ensures { outcome meant result reader.new ≡ entry_of (meant before.entry) reader.old }
 {
-    let Some(key) = Key::of(number(reader)?) else {
-        return Err(Fault::UnknownKey);
-    };
+    let key = Key::try_from(number(reader)?)?;
     if before.has(key) {
         return Err(Fault::RepeatedKey);
     }
     value(reader, key, before)
 }
 
-// As many keys and values as were declared.
-fn entries<'a>(reader: &mut Reader<'a>, count: u64) -> Result<Properties<'a>, Fault>
-    ensures { outcome meant result (left reader.new) ≡ entries_of count nothing (left reader.old) }
+// As many keys and values as were declared, added to what was read before them.
+fn entries<'a>(
+    reader: &mut Reader<'a>,
+    count: u64,
+    before: Properties<'a>,
+) -> Result<Properties<'a>, Fault>
+    ensures { outcome meant result reader.new ≡ entries_of count (meant before.entry) reader.old }
 {
-    let mut all = Properties {
-        name: None,
-        data_address: None,
-        resource_type: None,
-        content_format: None,
-        topic_type: None,
-        expiration: None,
-        max_subscribers: None,
-        observer_check: None,
-    };
-    let mut missing = count;
-    while missing > 0 {
+    let mut all = before;
+    for _ in 0..count {
         all = entry(reader, all)?;
-        missing -= 1;
     }
     Ok(all)
 }
@@ -136,8 +121,8 @@ pub fn read(bytes: &[u8]) -> Result<Properties<'_>, Fault>
     ensures { told result ≡ read_map bytes.now }
 {
     let mut reader = Reader::new(bytes);
-    let count = item(&mut reader, MAP)?;
-    let all = entries(&mut reader, count)?;
+    let count = item(&mut reader, Major::Map)?;
+    let all = entries(&mut reader, count, Properties::default())?;
     if !reader.is_done() {
         return Err(Fault::Trailing);
     }

@@ -7,8 +7,8 @@ mod properties;
 mod range;
 mod reader;
 
-pub use decode::read;
-pub use head::Head;
+pub use decode::{EPOCH_SECONDS, read};
+pub use head::{Head, Major};
 pub use properties::{Key, Properties};
 pub use range::check_range;
 pub use reader::Reader;

@@ -1,9 +1,11 @@
 // The properties of a topic, and the keys that they have in a map.
 ghost use Rattle.std.specs.Prelude.{◌≡◌};
-ghost use Rattle.maps.specs.Maps.{key_of, has, meant};
+ghost use Rattle.maps.specs.Maps.{has, key_number, known, meant};
+
+use protocol::Fault;
 
 // What a map says, with texts as parts of the bytes that were read and no value checked for its range.
-#[derive(Clone, Copy)]
+#[derive(Clone, Copy, PartialEq, Eq, Debug, Default)]
 pub struct Properties<'a> {
     pub name: Option<&'a [u8]>,
     pub data_address: Option<&'a [u8]>,
@@ -15,35 +17,45 @@ pub struct Properties<'a> {
     pub observer_check: Option<u64>,
 }
 
-// The keys of a map, 0 to 7.
-#[derive(Clone, Copy)]
+// The keys of a map, by their numbers.
+#[derive(Clone, Copy, PartialEq, Eq, Debug)]
 pub enum Key {
-    Name,
-    DataAddress,
-    ResourceType,
-    ContentFormat,
-    TopicType,
-    Expiration,
-    MaxSubscribers,
-    ObserverCheck,
+    Name = 0,
+    DataAddress = 1,
+    ResourceType = 2,
+    ContentFormat = 3,
+    TopicType = 4,
+    Expiration = 5,
+    MaxSubscribers = 6,
+    ObserverCheck = 7,
 }
 
-impl Key {
-    // The key that has this number; none has one above 7.
-    pub fn of(number: u64) -> Option<Key>
-        ensures { result ≡ key_of number }
-    {
+// The key that has this number; none has one above 7.
+impl TryFrom<u64> for Key {
+    type Error = Fault;
+
+    ghost try_from_gives = { λ n r. r ≡ known n };
+
+    fn try_from(number: u64) -> Result<Key, Fault> {
         match number {
-            0 => Some(Key::Name),
-            1 => Some(Key::DataAddress),
-            2 => Some(Key::ResourceType),
-            3 => Some(Key::ContentFormat),
-            4 => Some(Key::TopicType),
-            5 => Some(Key::Expiration),
-            6 => Some(Key::MaxSubscribers),
-            7 => Some(Key::ObserverCheck),
-            _ => None,
+            0 => Ok(Key::Name),
+            1 => Ok(Key::DataAddress),
+            2 => Ok(Key::ResourceType),
+            3 => Ok(Key::ContentFormat),
+            4 => Ok(Key::TopicType),
+            5 => Ok(Key::Expiration),
+            6 => Ok(Key::MaxSubscribers),
+            7 => Ok(Key::ObserverCheck),
+            _ => Err(Fault::UnknownKey),
         }
+    }
+}
+
+impl From<Key> for u64 {
+    ghost from_gives = { λ key n. n ≡ key_number key };
+
+    fn from(key: Key) -> u64 {
+        key as u64
     }
 }
 

@@ -3,7 +3,7 @@ use maps::Reader;
 use protocol::Fault;
 use std::test::Fail;
 
-// Bytes that are one head, with its major type and argument.
+// Bytes that are one head, with its major type and argument. The type is its number in RFC 8949, and no word of the code that is tested.
 #[derive(Clone, Copy)]
 struct Whole(&'static [u8], u8, u64);
 
@@ -51,7 +51,7 @@ fn whole_heads(rt: HostRuntime) -> Result<(), Fail> {
     for (i, row) in WHOLE.iter().enumerate() {
         let mut reader = Reader::new(row.0);
         let head = reader.head()?;
-        assert_eq!(rt; head.major, row.1, "row {i}");
+        assert_eq!(rt; head.major as u8, row.1, "row {i}");
         assert_eq!(rt; head.argument, row.2, "row {i}");
         assert!(rt; reader.is_done(), "row {i}");
     }

@@ -4,57 +4,6 @@ use protocol::Fault;
 use std::process::Abort;
 use std::test::Fail;
 
-const NOTHING: Properties<'static> = Properties {
-    name: None,
-    data_address: None,
-    resource_type: None,
-    content_format: None,
-    topic_type: None,
-    expiration: None,
-    max_subscribers: None,
-    observer_check: None,
-};
-
-// The properties got from the bytes of a row are those that are wanted.
-fn check_same(rt: &impl Abort, row: usize, got: Properties<'_>, wanted: Properties<'_>) {
-    assert_eq!(rt; got.name, wanted.name, "name of row {row}");
-    assert_eq!(rt;
-        got.data_address,
-        wanted.data_address,
-        "data address of row {row}"
-    );
-    assert_eq!(rt;
-        got.resource_type,
-        wanted.resource_type,
-        "resource type of row {row}"
-    );
-    assert_eq!(rt;
-        got.content_format,
-        wanted.content_format,
-        "content format of row {row}"
-    );
-    assert_eq!(rt;
-        got.topic_type,
-        wanted.topic_type,
-        "topic type of row {row}"
-    );
-    assert_eq!(rt;
-        got.expiration,
-        wanted.expiration,
-        "expiration of row {row}"
-    );
-    assert_eq!(rt;
-        got.max_subscribers,
-        wanted.max_subscribers,
-        "max subscribers of row {row}"
-    );
-    assert_eq!(rt;
-        got.observer_check,
-        wanted.observer_check,
-        "observer check of row {row}"
-    );
-}
-
 // Empty maps, with every width of the count.
 const EMPTY: [&[u8]; 5] = [
     b"\xa0",
@@ -67,7 +16,7 @@ const EMPTY: [&[u8]; 5] = [
 #[test]
 fn empty(rt: HostRuntime) -> Result<(), Fail> {
     for (i, bytes) in EMPTY.iter().enumerate() {
-        check_same(&rt, i, read(bytes)?, NOTHING);
+        assert_eq!(rt; read(bytes)?, Properties::default(), "row {i}");
     }
     Ok(())
 }
@@ -89,10 +38,10 @@ const KEYS: [&[u8]; 9] = [
 fn keys(rt: HostRuntime) -> Result<(), Fail> {
     let wanted = Properties {
         max_subscribers: Some(9),
-        ..NOTHING
+        ..Properties::default()
     };
     for (i, bytes) in KEYS.iter().enumerate() {
-        check_same(&rt, i, read(bytes)?, wanted);
+        assert_eq!(rt; read(bytes)?, wanted, "row {i}");
     }
     Ok(())
 }
@@ -110,10 +59,10 @@ const TAGS: [&[u8]; 5] = [
 fn tags(rt: HostRuntime) -> Result<(), Fail> {
     let wanted = Properties {
         expiration: Some(7),
-        ..NOTHING
+        ..Properties::default()
     };
     for (i, bytes) in TAGS.iter().enumerate() {
-        check_same(&rt, i, read(bytes)?, wanted);
+        assert_eq!(rt; read(bytes)?, wanted, "row {i}");
     }
     Ok(())
 }
@@ -160,10 +109,7 @@ fn check_given(rt: &impl Abort, row: usize, start: &[u8], value: &[u8], wanted: 
     let mut room = [0; 48];
     let n = with_key(rt, row, start, value, &mut room);
     assert!(rt; n <= 48, "row {row}");
-    match read(&room[0..n]) {
-        Ok(got) => check_same(rt, row, got, wanted),
-        Err(fault) => panic!(rt; "row {row}: {fault:?}"),
-    }
+    assert_eq!(rt; read(&room[0..n]), Ok(wanted), "row {row}");
 }
 
 #[test]
@@ -177,7 +123,7 @@ fn numbers(rt: HostRuntime) {
             row.0,
             Properties {
                 content_format: number,
-                ..NOTHING
+                ..Properties::default()
             },
         );
         check_given(
@@ -187,7 +133,7 @@ fn numbers(rt: HostRuntime) {
             row.0,
             Properties {
                 expiration: number,
-                ..NOTHING
+                ..Properties::default()
             },
         );
         check_given(
@@ -197,7 +143,7 @@ fn numbers(rt: HostRuntime) {
             row.0,
             Properties {
                 max_subscribers: number,
-                ..NOTHING
+                ..Properties::default()
             },
         );
         check_given(
@@ -207,7 +153,7 @@ fn numbers(rt: HostRuntime) {
             row.0,
             Properties {
                 observer_check: number,
-                ..NOTHING
+                ..Properties::default()
             },
         );
     }
@@ -251,7 +197,7 @@ fn texts(rt: HostRuntime) {
             row.0,
             Properties {
                 name: text,
-                ..NOTHING
+                ..Properties::default()
             },
         );
         check_given(
@@ -261,7 +207,7 @@ fn texts(rt: HostRuntime) {
             row.0,
             Properties {
                 data_address: text,
-                ..NOTHING
+                ..Properties::default()
             },
         );
         check_given(
@@ -271,7 +217,7 @@ fn texts(rt: HostRuntime) {
             row.0,
             Properties {
                 resource_type: text,
-                ..NOTHING
+                ..Properties::default()
             },
         );
         check_given(
@@ -281,7 +227,7 @@ fn texts(rt: HostRuntime) {
             row.0,
             Properties {
                 topic_type: text,
-                ..NOTHING
+                ..Properties::default()
             },
         );
     }
@@ -307,7 +253,7 @@ fn all_keys(rt: HostRuntime) -> Result<(), Fail> {
         observer_check: Some(3600),
     };
     for (i, bytes) in ALL.iter().enumerate() {
-        check_same(&rt, i, read(bytes)?, wanted);
+        assert_eq!(rt; read(bytes)?, wanted, "row {i}");
     }
     Ok(())
 }

@@ -78,7 +78,3 @@ told_expired (Err e) = refused e
 abbrev pub told_taken : Result (Option Note) Refusal → Outcome
 told_taken (Ok n) = took n
 told_taken (Err e) = refused e
-
--- a buffer with these bytes at its front, and the rest as it was
-abbrev pub laid : List ℕ → List ℕ → List ℕ
-laid bytes buf = bytes ++ drop (length bytes) buf

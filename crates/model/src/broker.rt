@@ -4,7 +4,7 @@ ghost use Rattle.std.specs.Prelude.{◌≡◌};
 use protocol::{Handle, Number};
 
 // The last handle given, and the last publication number given.
-#[derive(Clone, Copy)]
+#[derive(Clone, Copy, PartialEq, Eq, Debug)]
 pub struct Broker {
     pub handles: Handle,
     pub numbers: Number,

@@ -1,4 +1,3 @@
 pub mod Payloads
 pub mod Posts
 pub mod Rings
-pub mod Takes

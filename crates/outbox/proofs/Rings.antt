@@ -11,14 +11,6 @@ place-before s i k h = cond-true (ltb i (k - s)) (s + i) (i - (k - s)) (lt-ltb i
 pub place_behind : (s i k : ℕ) → k - s ≤ i → place s i k ≡ i - (k - s)
 place_behind s i k h = cond-false (ltb i (k - s)) (s + i) (i - (k - s)) (le-ltb i (k - s) h)
 
--- a place of the ring is a place of the row
-pub place-within : (s i k : ℕ) → s < k → i < k → place s i k < k
-place-within s i k h m =
-    elim (cases_lt i (k - s)) [
-      | inl lt ↦ omega (arith, place-before s i k lt)
-      | inr le ↦ omega (arith, place_behind s i k le)
-    ]
-
 module _ {X : Type 0} where
   -- a write in front of a place
   take-set_lt : (n : ℕ) (xs : List X) (i : ℕ) (y : X) → i < n → take n (set xs i y) ≡ set (take n xs) i y
@@ -87,16 +79,17 @@ module _ {X : Type 0} where
       ]
 
   -- one element more, where it is written to its place
-  pub ring_in : (s n p : ℕ) (xs ys : List X) (x : X) → s < length xs → n < length xs → p ≡ place s n (length xs) → ys ≡ set xs p x
+  pub ring_in : (s n p : ℕ) (xs ys : List X) (x : X) → s ≤ length xs - 1 → n < length xs → p ≡ place s n (length xs) → ys ≡ set xs p x
       → ring s (n + 1) ys ≡ ring s n xs ++ x ∷ []
-  ring_in s n p xs ys x h m at e = ap (ring s (n + 1)) (e ∙ ap (λ k. set xs k x) at) ∙ ring_push s n xs x h m
+  ring_in s n p xs ys x h m at e = ap (ring s (n + 1)) (e ∙ ap (λ k. set xs k x) at) ∙ ring_push s n xs x (omega arith) m
 
-  -- the first element, as it is read, and those behind it
-  pub ring_out : (s n p : ℕ) (xs : List X) (x : X) → s < length xs → 0 < n → n ≤ length xs → p ≡ place s 1 (length xs) → x ≡ get_or xs s x
-      → ring s n xs ≡ x ∷ ring p (n - 1) xs
-  ring_out s n p xs x h some m at e =
+  -- the elements behind the first
+  pub ring_out : (s n p : ℕ) (xs : List X) → s ≤ length xs - 1 → 0 < n → n ≤ length xs → p ≡ place s 1 (length xs)
+      → ring p (n - 1) xs ≡ drop 1 (ring s n xs)
+  ring_out s n p [] h some m at = absurd (omega arith)
+  ring_out s n p (x ∷ xs) h some m at =
+      let all = x ∷ xs in
       let one : n ≡ (n - 1) + 1 = omega arith in
-      ap (λ k. ring s k xs) one
-      ∙ ring-first s (n - 1) xs x h (omega arith)
-      ∙ ap (λ z. z ∷ ring (place s 1 (length xs)) (n - 1) xs) (sym e)
-      ∙ ap (λ k. x ∷ ring k (n - 1) xs) (sym at)
+      ap (λ k. ring k (n - 1) all) at
+      ∙ ap (drop 1) (sym (ring-first s (n - 1) all x (omega arith) (omega arith)))
+      ∙ ap (λ k. drop 1 (ring s k all)) (sym one)

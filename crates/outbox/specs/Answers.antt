@@ -1,5 +1,6 @@
 -- What an outbox answers, by the list of notes that wait.
-use Rattle.std.specs.Prelude.{◌≡◌, ℕ, Bool, true, false, cond, List, [], ◌∷◌, ◌++◌, length, take, drop, Some, None, Ok, Err, Option, Result, nat_le}
+use Rattle.std.specs.Prelude.{◌≡◌, ℕ, Bool, true, false, List, [], ◌∷◌, length, take, Some, None, Ok, Err, Option, Result, nat_le, if◌then◌else◌}
+use Rattle.protocol.specs.Buffers as buffers
 use Rattle.protocol.specs.declared.refusal.Refusal.{Refusal}
 use Rattle.protocol.specs.declared.refusal.Refusal.TheVariants.{BadBatch, OutboxFull}
 use Rattle.clients.specs.Subs.{sub_of}
@@ -8,7 +9,7 @@ use Rattle.outbox.specs.Notes.{Note, proper_batch}
 
 -- what a post answers: a batch of a bad size is refused before one that does not fit
 abbrev pub post_answer : (ℕ → ℕ → Bool) → ℕ → ℕ → Result (Unit {0}) Refusal
-post_answer fits n l = cond (proper_batch n l) (cond (fits n l) (Ok tt) (Err OutboxFull)) (Err BadBatch)
+post_answer fits n l = if proper_batch n l then (if fits n l then Ok tt else Err OutboxFull) else Err BadBatch
 
 -- the oldest note, if one waits
 abbrev pub first : List Note → Option Note
@@ -28,19 +29,19 @@ first_len (n ∷ ns) = length n.payload
 -- a buffer with the oldest note's payload in front, and the rest as it was
 abbrev pub laid : List Note → List ℕ → List ℕ
 laid [] buf = buf
-laid (n ∷ ns) buf = n.payload ++ drop (length n.payload) buf
+laid (n ∷ ns) buf = buffers.laid n.payload buf
 
 -- what a take answers at a buffer of so many bytes: refused, or the oldest note
 abbrev pub take_answer : List Note → ℕ → Result (Option Note) Refusal
-take_answer ws room = cond (nat_le 256 room) (Ok (first ws)) (Err BadBatch)
+take_answer ws room = if nat_le 256 room then Ok (first ws) else Err BadBatch
 
 -- the length that a take tells
 abbrev pub take_len : List Note → ℕ → ℕ
-take_len ws room = cond (nat_le 256 room) (first_len ws) 0
+take_len ws room = if nat_le 256 room then first_len ws else 0
 
 -- the buffer after a take
 abbrev pub take_buffer : List Note → List ℕ → List ℕ
-take_buffer ws buf = cond (nat_le 256 (length buf)) (laid ws buf) buf
+take_buffer ws buf = if nat_le 256 (length buf) then laid ws buf else buf
 
 module _ {C : Type 0} where
   -- what a message and the buffer with its payload say
@@ -65,4 +66,4 @@ module _ {C : Type 0} where
   pub record Gives (id : C → List ℕ) (n : Note) (m : Message C) (before after : List ℕ) : Type 0 where
     pub note : said id (Ok (Some m)) after ≡ Ok (Some n)
     pub len : m.len ≡ length n.payload
-    pub buffer : after ≡ n.payload ++ drop (length n.payload) before
+    pub buffer : after ≡ buffers.laid n.payload before

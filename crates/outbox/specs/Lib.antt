@@ -1,4 +1,5 @@
 pub mod Answers
+pub mod Laws
 pub mod Notes
 pub mod Payloads
 pub mod Rings

@@ -7,8 +7,9 @@ mod outbox;
 mod payload;
 mod ring;
 
-pub use limits::{MAX_PAYLOAD, MAX_SUBSCRIBERS};
+pub use limits::MAX_PAYLOAD;
 pub use message::{Content, Message};
-pub use outbox::{Outbox, is_proper};
+pub use outbox::{Outbox, check_batch, is_proper};
 pub use payload::Payload;
-pub use ring::place_of;
+pub use protocol::MAX_SUBSCRIBERS;
+pub use ring::Ring;

@@ -1,7 +1,4 @@
-// How large a batch may be.
-
-// the most subscribers of a batch
-pub const MAX_SUBSCRIBERS: usize = 100;
+// How large a payload may be.
 
 // the most bytes of a payload
 pub const MAX_PAYLOAD: usize = 256;

@@ -3,7 +3,7 @@ use clients::Subscriber;
 use protocol::{Code, Handle, Number};
 
 // What all messages of a batch say: the topic, the response code, the publication number and the content format.
-#[derive(Clone, Copy)]
+#[derive(Clone, Copy, PartialEq, Eq, Debug)]
 pub struct Content {
     pub handle: Handle,
     pub code: Code,
@@ -12,9 +12,10 @@ pub struct Content {
 }
 
 // A message taken from an outbox: for whom, what, and how many bytes of payload.
-#[derive(Clone, Copy)]
+#[derive(Clone, Copy, PartialEq, Eq, Debug)]
 pub struct Message<C> {
     pub subscriber: Subscriber<C>,
     pub content: Content,
+    // the payload itself lies in the buffer that the taker lent
     pub len: usize,
 }

@@ -5,6 +5,7 @@ use crate::limits::MAX_PAYLOAD;
 
 mod bytes;
 
+// An array with a length beside it: there is no heap, and an `ArrayVec` is not `Copy`, as a payload is for the slots that hosts lend.
 #[derive(Clone, Copy)]
 pub struct Payload {
     bytes: [u8; MAX_PAYLOAD],

@@ -1,7 +1,8 @@
 // Checks that any outbox over a hundred places passes, with clients that are sessions.
 use clients::{Session, Subscriber, Token};
-use outbox::{Content, Outbox};
+use outbox::{Content, Message, Outbox};
 use protocol::{Code, Handle, Number, Refusal};
+use std::array;
 use std::process::Abort;
 use std::test::Fail;
 
@@ -19,6 +20,15 @@ pub(crate) fn content(number: u32) -> Content {
         number: Number(number),
         format: 50,
     }
+}
+
+// What a taker gets of a batch that was posted for a session.
+fn message(session: u32, number: u32, len: usize) -> Result<Message<Session>, Fail> {
+    Ok(Message {
+        subscriber: subscriber(session)?,
+        content: content(number),
+        len,
+    })
 }
 
 // Posts a batch for a number of equal subscribers, with a payload of equal bytes.
@@ -43,16 +53,9 @@ pub(crate) fn take<O: Outbox<Session>>(
     len: usize,
 ) -> Result<(), Fail> {
     let mut out = [1u8; 260];
-    let Some(message) = outbox.take(&mut out)? else {
-        return Err(Fail::new("nothing waits"));
-    };
-    assert_eq!(rt; message.subscriber.client.0, number);
-    assert_eq!(rt; message.content.number.0, number);
-    assert_eq!(rt; message.content.format, 50);
-    assert_eq!(rt; message.len, len);
-    for (i, b) in out.iter().enumerate() {
-        assert_eq!(rt; *b, if i < len { 7 } else { 1 });
-    }
+    let taken = outbox.take(&mut out)?.ok_or("nothing waits")?;
+    assert_eq!(rt; taken, message(number, number, len)?);
+    assert_eq!(rt; out, array::from_fn(|i| if i < len { 7 } else { 1 }));
     Ok(())
 }
 
@@ -73,24 +76,16 @@ pub(crate) fn take_all<O: Outbox<Session>>(
 // A buffer of 255 bytes is refused, and stays as it is.
 pub(crate) fn refuses_short<O: Outbox<Session>>(rt: &impl Abort, outbox: &mut O) {
     let mut out = [1u8; 255];
-    let refused = match outbox.take(&mut out) {
-        Err(refusal) => refusal == Refusal::BadBatch,
-        Ok(_) => false,
-    };
-    assert!(rt; refused);
-    for b in &out {
-        assert_eq!(rt; *b, 1);
-    }
+    assert_eq!(rt; outbox.take(&mut out), Err(Refusal::BadBatch));
+    assert_eq!(rt; out, [1; 255]);
 }
 
 // Nothing waits: a take refuses a short buffer all the same, and leaves a long one as it is.
 pub(crate) fn is_empty<O: Outbox<Session>>(rt: &impl Abort, outbox: &mut O) -> Result<(), Fail> {
     refuses_short(rt, outbox);
     let mut out = [1u8; 256];
-    assert!(rt; outbox.take(&mut out)?.is_none());
-    for b in &out {
-        assert_eq!(rt; *b, 1);
-    }
+    assert_eq!(rt; outbox.take(&mut out), Ok(None));
+    assert_eq!(rt; out, [1; 256]);
     Ok(())
 }
 
@@ -133,13 +128,9 @@ pub(crate) fn keeps_order<O: Outbox<Session>>(rt: &impl Abort, outbox: &mut O) -
     assert_eq!(rt; post(rt, outbox, 4, 1, 0)?, Ok(()));
     for session in [3, 1, 2] {
         let mut out = [1u8; 256];
-        let Some(message) = outbox.take(&mut out)? else {
-            return Err(Fail::new("nothing waits"));
-        };
-        assert_eq!(rt; message.subscriber.client.0, session);
-        assert_eq!(rt; message.content.number.0, 9);
-        assert_eq!(rt; message.len, 2);
-        assert!(rt; out[0] == b'a' && out[1] == b'b' && out[2] == 1);
+        let taken = outbox.take(&mut out)?.ok_or("nothing waits")?;
+        assert_eq!(rt; taken, message(session, 9, 2)?);
+        assert!(rt; out.starts_with(b"ab\x01"));
     }
     take(rt, outbox, 4, 0)?;
     is_empty(rt, outbox)
@@ -148,7 +139,7 @@ pub(crate) fn keeps_order<O: Outbox<Session>>(rt: &impl Abort, outbox: &mut O) -
 // A full outbox refuses a batch, after a look at its size, and has room again for as many as are taken.
 pub(crate) fn fills<O: Outbox<Session>>(rt: &impl Abort, outbox: &mut O) -> Result<(), Fail> {
     assert_eq!(rt; post(rt, outbox, 1, 100, 1)?, Ok(()));
-    assert_eq!(rt; outbox.has_room(1, 0), false);
+    assert!(rt; !outbox.has_room(1, 0));
     assert_eq!(rt; post(rt, outbox, 2, 1, 0)?, Err(Refusal::OutboxFull));
     assert_eq!(rt; post(rt, outbox, 2, 0, 0)?, Err(Refusal::BadBatch));
     assert_eq!(rt; post(rt, outbox, 2, 101, 0)?, Err(Refusal::BadBatch));
@@ -166,8 +157,8 @@ pub(crate) fn fills<O: Outbox<Session>>(rt: &impl Abort, outbox: &mut O) -> Resu
 pub(crate) fn goes_round<O: Outbox<Session>>(rt: &impl Abort, outbox: &mut O) -> Result<(), Fail> {
     for number in [1, 2, 3, 4, 5] {
         assert_eq!(rt; post(rt, outbox, number, 60, 2)?, Ok(()));
-        assert_eq!(rt; outbox.has_room(40, 256), true);
-        assert_eq!(rt; outbox.has_room(41, 256), false);
+        assert!(rt; outbox.has_room(40, 256));
+        assert!(rt; !outbox.has_room(41, 256));
         take_all(rt, outbox, number, 60, 2)?;
     }
     is_empty(rt, outbox)

@@ -30,20 +30,6 @@ fn entry() -> Result<Entry<Session>, Fail> {
     })
 }
 
-fn slots_refused(memory: &mut [Slot<Session>]) -> bool {
-    match Slots::new(memory) {
-        Ok(_) => false,
-        Err(refusal) => refusal == Refusal::ShortMemory,
-    }
-}
-
-fn shared_refused(contents: &mut [Place], entries: &mut [Entry<Session>]) -> bool {
-    match Shared::new(contents, entries) {
-        Ok(_) => false,
-        Err(refusal) => refusal == Refusal::ShortMemory,
-    }
-}
-
 #[test]
 fn slots_behave(rt: HostRuntime) -> Result<(), Fail> {
     let mut memory = [slot()?; 100];
@@ -61,15 +47,16 @@ fn shared_behaves(rt: HostRuntime) -> Result<(), Fail> {
 
 #[test]
 fn memory_is_enough(rt: HostRuntime) -> Result<(), Fail> {
+    let short = Some(Refusal::ShortMemory);
     let mut memory = [slot()?; 99];
-    assert!(rt; slots_refused(&mut memory));
+    assert_eq!(rt; Slots::new(&mut memory).err(), short);
     let mut contents = [place(); 1];
     let mut entries = [entry()?; 99];
-    assert!(rt; shared_refused(&mut contents, &mut entries));
+    assert_eq!(rt; Shared::new(&mut contents, &mut entries).err(), short);
     let mut none = [place(); 0];
     let mut enough = [entry()?; 100];
-    assert!(rt; shared_refused(&mut none, &mut enough));
-    assert!(rt; !shared_refused(&mut contents, &mut enough));
+    assert_eq!(rt; Shared::new(&mut none, &mut enough).err(), short);
+    assert!(rt; Shared::new(&mut contents, &mut enough).is_ok());
     Ok(())
 }
 

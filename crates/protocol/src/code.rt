@@ -4,19 +4,20 @@ ghost use Rattle.std.specs.Prelude.{◌≡◌, Some};
 
 use std::fmt;
 
+// Each code is one byte of a message: its class in the first three bits, its detail in the other five.
 #[derive(Clone, Copy, PartialEq, Eq, Debug)]
 pub enum Code {
-    Created,
-    Deleted,
-    Changed,
-    Content,
-    BadRequest,
-    Forbidden,
-    NotFound,
-    TooLarge,
-    UnsupportedFormat,
-    InternalError,
-    Unavailable,
+    Created = 0x41,
+    Deleted = 0x42,
+    Changed = 0x44,
+    Content = 0x45,
+    BadRequest = 0x80,
+    Forbidden = 0x83,
+    NotFound = 0x84,
+    TooLarge = 0x8d,
+    UnsupportedFormat = 0x8f,
+    InternalError = 0xa0,
+    Unavailable = 0xa3,
 }
 
 impl Code {
@@ -24,31 +25,14 @@ impl Code {
     pub fn class(self) -> u8
         ensures { result ≡ class_of self }
     {
-        match self {
-            Code::Created | Code::Deleted | Code::Changed | Code::Content => 2,
-            Code::BadRequest
-            | Code::Forbidden
-            | Code::NotFound
-            | Code::TooLarge
-            | Code::UnsupportedFormat => 4,
-            Code::InternalError | Code::Unavailable => 5,
-        }
+        self as u8 / 32
     }
 
     // The two digits behind the point, as a number.
     pub fn detail(self) -> u8
         ensures { result ≡ detail_of self }
     {
-        match self {
-            Code::BadRequest | Code::InternalError => 0,
-            Code::Created => 1,
-            Code::Deleted => 2,
-            Code::Forbidden | Code::Unavailable => 3,
-            Code::Changed | Code::NotFound => 4,
-            Code::Content => 5,
-            Code::TooLarge => 13,
-            Code::UnsupportedFormat => 15,
-        }
+        self as u8 % 32
     }
 }
 

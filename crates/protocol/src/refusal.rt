@@ -47,6 +47,7 @@ pub enum Refusal {
 }
 
 impl Refusal {
+    // A match, and no numbers at the variants: one of them has a fault inside.
     pub fn number(self) -> u8
         ensures { result ≡ number_of self }
     {
@@ -71,7 +72,7 @@ impl Refusal {
         }
     }
 
-    // The code that the client is answered with; none where the host alone is told.
+    // The code that the client is answered with; none where the host alone is told. A match, as for the number.
     pub fn code(self) -> Option<Code>
         ensures { result ≡ code_of self }
     {

@@ -2,7 +2,7 @@
 use protocol::Number;
 
 // What a publish brought: the content format, the publication number, and the payload.
-#[derive(Clone, Copy)]
+#[derive(Clone, Copy, PartialEq, Eq, Debug)]
 pub struct Reading<'a> {
     pub format: u16,
     pub number: Number,

@@ -1,65 +1,59 @@
--- Room in a shared outbox: the tests that the code makes, and what they tell.
-use Rattle.std.proofs.Common.{◌≡◌, ℕ, ◌+◌, ◌-◌, ◌<◌, ◌≤◌, Bool, true, false, ◌&&◌, leb, List, length, is_some, IfSome, Some, None, Option, sym, ap, ◌∙◌, arith, MatchOption}
-use lib.ListN.{length-map}
-use Rattle.std.proofs.lemmas.List.{nil_from_length}
-use Rattle.std.proofs.lemmas.Bool.{and_left, and_right, and_parts, and_from, leb-true, le-leb, lt-leb}
+-- Room in a shared outbox: what the search for a free place tells, where the other tests are passed.
+use Rattle.std.proofs.Common.{◌≡◌, ℕ, ◌+◌, ◌<◌, ◌≤◌, Bool, true, false, not, eqb, leb, List, [], ◌∷◌, length, Ok, Err, sym, ◌∙◌, inl, inr, arith, MatchResult}
+use Rattle.std.specs.List.{position, position_or_len}
+use Rattle.std.specs.Option.{ok_or}
+use Rattle.std.proofs.lemmas.Bool.{and_from, and_right, cases_lt, le-leb, lt-ltb, le-ltb}
 use Rattle.std.proofs.lemmas.Bool.Decides.{nat_tests}
-use Rattle.outbox.proofs.Rings.{length-ring}
-use Rattle.outbox.specs.Notes.{Sound, proper_batch}
+use Rattle.std.proofs.lemmas.List.Sums.{prefix_len_passes, prefix_len_stops}
+use Rattle.protocol.specs.declared.refusal.Refusal.TheVariants.{OutboxFull}
+use Rattle.outbox.proofs.Posts.{answer_full, answer_ok}
+use Rattle.outbox.specs.Answers.{post_answer}
+use Rattle.outbox.specs.Notes.{proper_batch}
+use Rattle.shared_outbox.specs.declared.place.Place.{Place}
 use Rattle.shared_outbox.specs.declared.shared.Shared.{Shared}
+use Rattle.shared_outbox.proofs.Contents.{users_of}
 use Rattle.shared_outbox.proofs.Counts.{free_none, free_some}
-use Rattle.shared_outbox.specs.Entries.{note_at, some_free, uses}
-use Rattle.shared_outbox.specs.Held.{bodies_in, capacity_of, held, places_of, room_in, waiting_in}
+use Rattle.shared_outbox.specs.Entries.{some_free, uses}
+use Rattle.shared_outbox.specs.Held.{capacity_of, held, places_of, room_in}
 use Rattle.shared_outbox.specs.Places.{users_at}
 
-module _ {C : Type 0} (q : Shared C) where
-  pub held-length : length (held q) ≡ q.len
-  held-length = length-ring q.start q.len q.row.entries.now (omega (arith, q.begins)) q.within
+-- a place that no entry names
+abbrev unused : Place → Bool
+unused p = eqb p.users 0
 
-  enough : ℕ → Bool
-  enough n = leb (length (held q) + n) (capacity_of q)
+zero_if : (n : ℕ) → not (eqb n 0) ≡ false → n ≡ 0
+zero_if n e = grind (arith, nat_tests)
 
-  free : Bool
-  free = some_free (places_of q) (held q)
+some_if : (n : ℕ) → not (eqb n 0) ≡ true → n ≡ 0 → ⊥
+some_if n e z = grind (arith, nat_tests)
 
-  pub room_improper : (n l : ℕ) → false ≡ proper_batch n l → false ≡ room_in q n l
-  unfolding enough free
-  room_improper n l p = sym (and_left (proper_batch n l) (enough n && free) (sym p))
+-- the place that was found has no users
+found : (ps : List Place) → position_or_len unused ps < length ps → users_at ps (position_or_len unused ps) ≡ 0
+found [] h = absurd (omega arith)
+found (p ∷ ps) h = users_of (p ∷ ps) _ p h ∙ zero_if _ (prefix_len_stops (λ (x : Place). not (unused x)) (p ∷ ps) p h)
 
-  pub room-full : (n l : ℕ) → capacity_of q - q.len < n → false ≡ room_in q n l
-  unfolding enough free
-  room-full n l h = sym (and_right (proper_batch n l) (enough n && free) (and_left (enough n) free (lt-leb (length (held q) + n) (capacity_of q) (omega (arith, held-length, q.within)))))
+-- where none was found, every place has users
+unfound : (ps : List Place) → length ps ≤ position_or_len unused ps → (i : ℕ) → i < length ps → users_at ps i ≡ 0 → ⊥
+unfound [] none i h e = absurd (omega arith)
+unfound (p ∷ ps) none i h e = some_if _ (prefix_len_passes (λ (x : Place). not (unused x)) (p ∷ ps) i p (omega arith)) (sym (users_of (p ∷ ps) i p h) ∙ e)
 
-  pub room_free : (n l : ℕ) → true ≡ proper_batch n l → n ≤ capacity_of q - q.len → (o : Option ℕ)
-      → MatchOption o ((p : ℕ) → p < places_of q → users_at q.places.contents.now p ≡ 0 → ⊥) (λ p. (p < places_of q) × (users_at q.places.contents.now p ≡ 0))
-      → is_some o ≡ room_in q n l
-  unfolding enough free
-  room_free n l p h None none =
-      sym (and_right (proper_batch n l) (enough n && free) (and_right (enough n) free (free_none (places_of q) (held q) (λ i m e. none i m (sym (q.counted i) ∙ e)))))
-  room_free n l p h (Some i) (m, e) =
-      sym (and_from (proper_batch n l) (enough n && free) (sym p)
-      (and_from (enough n) free (le-leb (length (held q) + n) (capacity_of q) (omega (arith, held-length, q.within))) (free_some (places_of q) i (held q) m (q.counted i ∙ e))))
+module _ {C : Type 0} (q : Shared C) (n l : ℕ) (proper : true ≡ proper_batch n l) (fits : length (held q) + n ≤ capacity_of q) where
+  room_free : some_free (places_of q) (held q) ≡ true → room_in q n l ≡ true
+  room_free some = and_from _ _ (sym proper) (and_from _ _ (le-leb (length (held q) + n) (capacity_of q) fits) some)
 
-  -- a place that counts no users is named by no entry that waits
-  pub place_found : (o : Option ℕ)
-      → MatchOption o ((p : ℕ) → p < places_of q → users_at q.places.contents.now p ≡ 0 → ⊥) (λ p. (p < places_of q) × (users_at q.places.contents.now p ≡ 0))
-      → IfSome o (λ p. (p < places_of q) × (uses p (held q) ≡ 0))
-  place_found None none = tt
-  place_found (Some i) (m, e) = (m, q.counted i ∙ e)
+  room-full : some_free (places_of q) (held q) ≡ false → room_in q n l ≡ false
+  room-full none = and_right (proper_batch n l) _ (and_right (leb (length (held q) + n) (capacity_of q)) _ none)
 
-  pub room_fits : (n l : ℕ) → true ≡ room_in q n l → q.len + n ≤ capacity_of q
-  unfolding enough free
-  room_fits n l r = omega (arith, held-length, leb-true (length (held q) + n) (capacity_of q) (and_parts (enough n) free (and_parts (proper_batch n l) (enough n && free) (sym r)).1).0)
-
-  -- what fits is sound
-  pub room-sound : (id : C → List ℕ) → Sound (waiting_in id q) (room_in q)
-  unfolding enough free
-  room-sound id = record {
-    proper = λ n l r. (and_parts (proper_batch n l) (enough n && free) r).0;
-    roomy = λ e n l p.
-        let none : length (held q) ≡ 0 = sym (length-map (held q) (note_at id (bodies_in q))) ∙ ap length e in
-        let unused : uses 0 (held q) ≡ 0 = ap (uses 0) (nil_from_length (held q) none) in
-        let few : n ≤ 100 = grind (arith, nat_tests) in
-        and_from (proper_batch n l) (enough n && free) p
-        (and_from (enough n) free (le-leb (length (held q) + n) (capacity_of q) (omega (arith, none, few, q.roomy))) (free_some (places_of q) 0 (held q) (omega (arith, q.some)) unused));
-  }
+  pub place_found : MatchResult (ok_or (position unused q.places) OutboxFull)
+      (λ p. (p < places_of q) × (uses p (held q) ≡ 0) × (post_answer (room_in q) n l ≡ Ok tt))
+      (λ e. post_answer (room_in q) n l ≡ Err e)
+  place_found =
+      let at = position_or_len unused q.places in
+      elim (cases_lt at (places_of q)) [
+        | inl lt ↦
+            let free : uses at (held q) ≡ 0 = q.counted at ∙ found q.places lt in
+            rw (lt-ltb at (places_of q) lt) (lt, free, sym (answer_ok (room_in q) n l proper (sym (room_free (free_some (places_of q) at (held q) lt free)))))
+        | inr le ↦
+            let none = free_none (places_of q) (held q) (λ i h e. unfound q.places le i h (sym (q.counted i) ∙ e)) in
+            rw (le-ltb at (places_of q) le) (sym (answer_full (room_in q) n l proper (sym (room-full none))))
+      ]

@@ -1,5 +1,5 @@
 -- Entries that wait: which content places they name, and what they say.
-use Rattle.std.specs.Prelude.{ℕ, zero, suc, ◌+◌, Bool, false, cond, ◌||◌, List, [], ◌∷◌, ◌==◌, slice_index_or}
+use Rattle.std.specs.Prelude.{ℕ, zero, suc, Bool, false, ◌||◌, List, ◌==◌, count_by, slice_index_or}
 use Rattle.clients.specs.Subs.{sub_of}
 use Rattle.outbox.specs.Notes.{Note}
 use Rattle.shared_outbox.specs.declared.entry.Entry.{Entry}
@@ -8,8 +8,7 @@ use Rattle.shared_outbox.specs.Places.{Body, blank}
 module _ {C : Type 0} where
   -- how many of the entries name a place
   abbrev pub uses : ℕ → List (Entry C) → ℕ
-  uses p [] = 0
-  uses p (e ∷ es) = cond (e.place == p) 1 0 + uses p es
+  uses p = count_by (λ e. e.place == p)
 
   -- one of the first k places is free: none of the entries names it
   abbrev pub some_free : ℕ → List (Entry C) → Bool

@@ -1,7 +1,6 @@
 -- What a shared outbox holds, and what fits.
 use Rattle.std.specs.Prelude.{ℕ, ◌+◌, Bool, ◌&&◌, List, map, length, nat_le}
 use Rattle.outbox.specs.Notes.{Note, proper_batch}
-use Rattle.outbox.specs.Rings.{ring}
 use Rattle.shared_outbox.specs.declared.entry.Entry.{Entry}
 use Rattle.shared_outbox.specs.declared.shared.Shared.{Shared}
 use Rattle.shared_outbox.specs.Entries.{note_at, some_free}
@@ -10,19 +9,19 @@ use Rattle.shared_outbox.specs.Places.{Body, bodies}
 module _ {C : Type 0} where
   -- the entries that wait, the oldest first
   abbrev pub held : Shared C → List (Entry C)
-  held q = ring q.start q.len q.row.entries.now
+  held q = q.entries.items
 
   -- what the content places hold
   abbrev pub bodies_in : Shared C → List Body
-  bodies_in q = bodies q.places.contents.now
+  bodies_in q = bodies q.places
 
   -- how many entries there are
   abbrev pub capacity_of : Shared C → ℕ
-  capacity_of q = length q.row.entries.now
+  capacity_of q = q.entries.capacity
 
   -- how many content places there are
   abbrev pub places_of : Shared C → ℕ
-  places_of q = length q.places.contents.now
+  places_of q = length q.places
 
   -- the messages that wait
   abbrev pub waiting_in : (C → List ℕ) → Shared C → List Note

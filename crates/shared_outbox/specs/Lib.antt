@@ -1,3 +1,4 @@
 pub mod Entries
 pub mod Held
+pub mod Laws
 pub mod Places

@@ -4,7 +4,6 @@
 mod entry;
 mod place;
 mod places;
-mod row;
 mod shared;
 
 pub use entry::Entry;

@@ -5,5 +5,6 @@ use outbox::{Content, Payload};
 pub struct Place {
     pub content: Content,
     pub payload: Payload,
+    // 0 where the place is free: no Option, since the next content is written over the last one in place
     pub users: usize,
 }

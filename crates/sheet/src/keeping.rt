@@ -7,7 +7,7 @@ ghost use Rattle.topics.specs.Admission.{admitted};
 
 use map_writer::write;
 use protocol::{Handle, Refusal, data_address};
-use store::{Key, Store};
+use store::{Key, Store, VALUE_LIMIT};
 use topics::new_topic;
 
 // Stores the topic that the map makes with this data address, in its one written form.
@@ -22,7 +22,8 @@ fn keep_at<'a, S: Store>(
     ensures after { S.Store.held store.new ≡ held_after (admitted address.now map.now) (S.Store.held store.old) (S.Store.capacity store.old) (properties_key handle.0) }
 {
     let topic = new_topic(map, address)?;
-    let mut value = [0; 576];
+    let mut value = [0; VALUE_LIMIT];
+    // let and else, and no `ok_or`: the proof that a topic's map always fits reads the two cases apart
     let Some(len) = write(&topic, &mut value) else {
         return Err(Refusal::TooLarge);
     };

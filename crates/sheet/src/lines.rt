@@ -1,14 +1,14 @@
 // The lines of a sheet, one after the other, and what the store holds at the end.
 use crate::keeping::keep;
-use crate::text::{properties_text, refusal_text};
-use anyhow::anyhow;
+use crate::text::{Shown, Told};
+use anyhow::bail;
 use hexadecimal::{decode, encode};
 use maps::read;
 use protocol::Handle;
-use store::{Key, Store};
+use store::{Key, Store, VALUE_LIMIT};
 
 // How many maps are stored, and of how many the line said what is wrong.
-#[derive(Clone, Copy)]
+#[derive(Clone, Copy, Default)]
 struct Tally {
     stored: u32,
     refused: u32,
@@ -22,19 +22,19 @@ fn print_topic<S: Store>(
     words: &str,
 ) -> anyhow::Result<()> {
     let heap = rt.alloc();
-    let mut value = [0; 576];
+    let mut value = [0; VALUE_LIMIT];
     let Ok(Some(len)) = store.get(Key { handle, part: 0 }, &mut value) else {
-        return Err(anyhow!("the store does not hold what was put"));
+        bail!("the store does not hold what was put");
     };
-    if len > 576 {
-        return Err(anyhow!("the store gave more than it may hold"));
+    if len > VALUE_LIMIT {
+        bail!("the store gave more than it may hold");
     }
     let map = &value[0..len];
     let number = handle.0;
     let digits = encode(heap, map)?;
     println!(rt; "{words} handle={number} {digits}")?;
     if let Ok(properties) = read(map) {
-        let text = properties_text(heap, &properties)?;
+        let text = Shown(properties);
         println!(rt; "   {text}")?;
     }
     Ok(())
@@ -62,8 +62,8 @@ fn take_map<S: Store>(
             Ok(Tally { stored, ..tally })
         }
         Err(refusal) => {
-            let words = refusal_text(heap, refusal)?;
-            println!(rt; "line {number}: {words}")?;
+            let told = Told(refusal);
+            println!(rt; "line {number}: {told}")?;
             Ok(Tally { refused, ..tally })
         }
     }
@@ -71,6 +71,7 @@ fn take_map<S: Store>(
 
 // Prints every topic that the store holds, by rising handle; how many there are.
 fn print_held<S: Store>(rt: &HostRuntime, store: &S) -> anyhow::Result<u32> {
+    // not by `successors`: in generic code a `for` over an adapter with a closure gets no proof
     let mut last = Handle(0);
     for count in 0..u32::MAX {
         let Some(handle) = store.next(last) else {
@@ -84,10 +85,7 @@ fn print_held<S: Store>(rt: &HostRuntime, store: &S) -> anyhow::Result<u32> {
 
 // Reads the whole sheet into an empty store.
 pub(crate) fn run<S: Store>(rt: &HostRuntime, text: &str, store: &mut S) -> anyhow::Result<()> {
-    let mut tally = Tally {
-        stored: 0,
-        refused: 0,
-    };
+    let mut tally = Tally::default();
     for (i, line) in text.lines().enumerate() {
         let line = line.trim();
         if line.is_empty() || line.starts_with('#') {

@@ -6,15 +6,13 @@ mod lines;
 mod options;
 mod text;
 
-use anyhow::anyhow;
 use lines::run;
-use log_store::with_log;
+use log_store::LogStore;
 use options::{Kind, parse};
 use std::process::ExitCode;
 use std::{env, fs, io};
-use store::{Store, Work};
 use table_store::TableStore;
-use text::refusal_text;
+use text::Told;
 
 const USAGE: &str = "Usage: sheet [--store table | --store log BYTES] [FILE]
 
@@ -29,45 +27,21 @@ end come the topics that the store holds, and a summary.
   FILE               the sheet; without it, standard input";
 
 // The whole sheet, from the file or from standard input.
-fn whole_text(rt: &HostRuntime, path: &Option<String>) -> anyhow::Result<String> {
+fn whole_text(rt: &HostRuntime, path: Option<&str>) -> anyhow::Result<String> {
     match path {
-        Some(path) => Ok(fs::read_to_string(rt, path.as_str())?),
+        Some(path) => Ok(fs::read_to_string(rt, path)?),
         None => Ok(io::read_to_string(rt.alloc(), rt.stdin())?),
     }
 }
 
-// A sheet to be read into a store.
-#[derive(Drop)]
-struct Sheet<'a> {
-    rt: &'a HostRuntime,
-    text: &'a str,
-}
-
-impl Work for Sheet<'_> {
-    type Output = anyhow::Result<()>;
-
-    ghost done = { λ _ _ _ _. Unit {0} };
-
-    fn run<S: Store>(self, store: &mut S) -> anyhow::Result<()> {
-        run(self.rt, self.text, store)
-    }
-}
-
-// The sheet, read into a log store in these bytes.
-fn in_log<'a>(rt: &'a HostRuntime, text: &'a str, bytes: &mut [u8]) -> anyhow::Result<()> {
-    match with_log(bytes, Sheet { rt, text }) {
-        Ok(outcome) => outcome,
-        Err(refusal) => Err(anyhow!(refusal_text(rt.alloc(), refusal)?)),
-    }
-}
-
 fn process(rt: &HostRuntime) -> anyhow::Result<()> {
-    let options = parse(env::args(rt)?)?;
+    let words: Vec<String> = env::args(rt)?.skip(1).collect(rt.alloc())?;
+    let options = parse(words.as_slice())?;
     if options.help {
         rt.println(USAGE)?;
         return Ok(());
     }
-    let text = whole_text(rt, &options.path)?;
+    let text = whole_text(rt, options.path)?;
     match options.store {
         Kind::Table => {
             let mut store = TableStore::new();
@@ -75,7 +49,8 @@ fn process(rt: &HostRuntime) -> anyhow::Result<()> {
         }
         Kind::Log(len) => {
             let mut bytes = vec![in rt.alloc(); 0; len]?;
-            in_log(rt, text.as_str(), bytes.as_mut_slice())
+            let mut store = LogStore::new(bytes.as_mut_slice()).map_err(Told)?;
+            run(rt, text.as_str(), &mut store)
         }
     }
 }

@@ -1,6 +1,7 @@
 // What the command line asks for.
-use anyhow::anyhow;
-use std::env::Args;
+ghost use Rattle.std.specs.Prelude.{◌<◌, length, IfOk};
+
+use anyhow::{Context, Result, bail};
 
 // The kind of store.
 #[derive(Clone, Copy)]
@@ -9,71 +10,56 @@ pub enum Kind {
     Log(usize),
 }
 
-#[derive(Drop)]
-pub struct Options {
+#[derive(Clone, Copy)]
+pub struct Options<'a> {
     pub store: Kind,
-    pub path: Option<String>,
+    pub path: Option<&'a str>,
+    // a flag: the words behind --help are judged all the same
     pub help: bool,
 }
 
-// What the next word is: an option or the file, the name of a store, or the bytes of a log.
-#[derive(Clone, Copy)]
-enum Wanted {
-    Option,
-    Store,
-    Bytes,
-}
-
-// The number of bytes that a word tells.
-fn bytes(word: &str) -> anyhow::Result<usize> {
-    match word.parse::<usize>() {
-        Ok(n) => Ok(n),
-        Err(_) => Err(anyhow!("--store log: the number of bytes is no number")),
+// The store that the words behind --store name, and the words behind it.
+fn store(words: &[String]) -> Result<(Kind, &[String])>
+    ensures { IfOk result (λ r. length r.1.now < length words.now) }
+{
+    let (name, rest) = words
+        .split_first()
+        .context("--store: table or log BYTES is missing")?;
+    match name.as_str() {
+        "table" => Ok((Kind::Table, rest)),
+        "log" => {
+            let (bytes, rest) = rest
+                .split_first()
+                .context("--store log: the number of bytes is missing")?;
+            let len = bytes
+                .parse::<usize>()
+                .context("--store log: the number of bytes is no number")?;
+            Ok((Kind::Log(len), rest))
+        }
+        _ => bail!("--store: neither table nor log BYTES"),
     }
 }
 
-// Takes one word, and tells what the next one is.
-fn take(options: &mut Options, wanted: Wanted, word: String) -> anyhow::Result<Wanted> {
-    match (wanted, word.as_str()) {
-        (Wanted::Option, "--help") => {
-            options.help = true;
-            Ok(Wanted::Option)
-        }
-        (Wanted::Option, "--store") => Ok(Wanted::Store),
-        (Wanted::Option, text) => {
-            if text.starts_with("--") {
-                return Err(anyhow!("unknown option; sheet --help tells the usage"));
-            }
-            options.path = Some(word);
-            Ok(Wanted::Option)
-        }
-        (Wanted::Store, "table") => {
-            options.store = Kind::Table;
-            Ok(Wanted::Option)
-        }
-        (Wanted::Store, "log") => Ok(Wanted::Bytes),
-        (Wanted::Store, _) => Err(anyhow!("--store: neither table nor log BYTES")),
-        (Wanted::Bytes, text) => {
-            options.store = Kind::Log(bytes(text)?);
-            Ok(Wanted::Option)
-        }
-    }
-}
-
-// The options that the arguments give, the program's own name first.
-pub(crate) fn parse(args: Args) -> anyhow::Result<Options> {
+// The options that the words give.
+pub(crate) fn parse(words: &[String]) -> Result<Options<'_>> {
     let mut options = Options {
         store: Kind::Table,
         path: None,
         help: false,
     };
-    let mut wanted = Wanted::Option;
-    for word in args.skip(1) {
-        wanted = take(&mut options, wanted, word)?;
+    let mut words = words;
+    while let Some((word, rest)) = words.split_first() {
+        words = rest;
+        match word.as_str() {
+            "--help" => options.help = true,
+            "--store" => (options.store, words) = store(words)?,
+            text => {
+                if text.starts_with("--") {
+                    bail!("unknown option; sheet --help tells the usage");
+                }
+                options.path = Some(text);
+            }
+        }
     }
-    match wanted {
-        Wanted::Option => Ok(options),
-        Wanted::Store => Err(anyhow!("--store: table or log BYTES is missing")),
-        Wanted::Bytes => Err(anyhow!("--store log: the number of bytes is missing")),
-    }
+    Ok(options)
 }

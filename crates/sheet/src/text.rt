@@ -1,9 +1,10 @@
 // Refusals and properties in words.
 use maps::Properties;
 use protocol::{Fault, Refusal};
-use std::alloc::{AllocError, Global};
+use std::error::Error;
+use std::fmt;
 
-// What a fault of reading means.
+// What a fault of reading means. Words of this program: another crate's type takes no Display from here.
 fn fault_words(fault: Fault) -> &'static str {
     match fault {
         Fault::Ends => "the bytes end inside an item",
@@ -26,76 +27,66 @@ fn refusal_words(refusal: Refusal) -> &'static str {
     }
 }
 
-// A refusal: its number, its code and fault where it has them, and words.
-pub(crate) fn refusal_text(heap: Global, refusal: Refusal) -> Result<String, AllocError> {
-    let number = refusal.number();
-    let words = refusal_words(refusal);
-    let mut text = format!(in heap; "refused {number}")?;
-    if let Some(code) = refusal.code() {
-        let class = code.class();
-        let detail = code.detail();
-        text.push_str(format!(in heap; " {class}.{detail:02}")?.as_str())?;
+// A refusal with its number, its code and fault where it has them, and words.
+#[derive(Clone, Copy, Debug)]
+pub(crate) struct Told(pub(crate) Refusal);
+
+impl fmt::Display for Told {
+    fn fmt<W: fmt::Write>(&self, f: &mut fmt::Formatter<W>) -> fmt::Result {
+        let refusal = self.0;
+        let words = refusal_words(refusal);
+        write!(f, "refused {refusal} ({words})")
     }
-    if let Refusal::Unreadable(fault) = refusal {
-        let fault = fault.number();
-        text.push_str(format!(in heap; " fault={fault}")?.as_str())?;
-    }
-    text.push_str(format!(in heap; " ({words})")?.as_str())?;
-    Ok(text)
 }
 
-// Bytes as text between quotes, with every byte that is no plain character in hexadecimal.
-fn quoted(heap: Global, bytes: &[u8]) -> Result<String, AllocError> {
-    let mut text = String::from_str(heap, "\"")?;
-    for b in bytes {
-        if *b >= b' ' && *b <= b'~' && *b != b'"' && *b != b'\\' {
-            text.push(*b as char)?;
-        } else {
+impl Error for Told {}
+
+// Bytes between quotes, with every byte that is no plain character in hexadecimal.
+#[derive(Clone, Copy)]
+struct Quoted<'a>(&'a [u8]);
+
+impl fmt::Display for Quoted<'_> {
+    fn fmt<W: fmt::Write>(&self, f: &mut fmt::Formatter<W>) -> fmt::Result {
+        f.write_char('"')?;
+        for b in self.0 {
             let b = *b;
-            text.push_str(format!(in heap; "\\x{b:02x}")?.as_str())?;
+            match b {
+                b'"' | b'\\' => write!(f, "\\x{b:02x}")?,
+                b' '..=b'~' => f.write_char(b as char)?,
+                _ => write!(f, "\\x{b:02x}")?,
+            }
         }
+        f.write_char('"')
     }
-    text.push('"')?;
-    Ok(text)
 }
 
-// A property that is a text, where it is given.
-fn push_text(
-    heap: Global,
-    out: &mut String,
+// A property, where it is given.
+// `vectors` has one for numbered keys: a crate for the two would be longer than both.
+fn show<W: fmt::Write, V: fmt::Display + Drop>(
+    f: &mut fmt::Formatter<W>,
     name: &str,
-    text: Option<&[u8]>,
-) -> Result<(), AllocError> {
-    if let Some(text) = text {
-        let value = quoted(heap, text)?;
-        out.push_str(format!(in heap; " {name}={value}")?.as_str())?;
+    value: Option<V>,
+) -> fmt::Result {
+    match value {
+        Some(value) => write!(f, " {name}={value}"),
+        None => Ok(()),
     }
-    Ok(())
-}
-
-// A property that is a number, where it is given.
-fn push_number(
-    heap: Global,
-    out: &mut String,
-    name: &str,
-    number: Option<u64>,
-) -> Result<(), AllocError> {
-    if let Some(n) = number {
-        out.push_str(format!(in heap; " {name}={n}")?.as_str())?;
-    }
-    Ok(())
 }
 
 // The properties that are given, by rising key.
-pub(crate) fn properties_text(heap: Global, p: &Properties<'_>) -> Result<String, AllocError> {
-    let mut text = String::new(heap);
-    push_text(heap, &mut text, "topic-name", p.name)?;
-    push_text(heap, &mut text, "topic-data", p.data_address)?;
-    push_text(heap, &mut text, "resource-type", p.resource_type)?;
-    push_number(heap, &mut text, "topic-content-format", p.content_format)?;
-    push_text(heap, &mut text, "topic-type", p.topic_type)?;
-    push_number(heap, &mut text, "expiration-date", p.expiration)?;
-    push_number(heap, &mut text, "max-subscribers", p.max_subscribers)?;
-    push_number(heap, &mut text, "observer-check", p.observer_check)?;
-    Ok(text)
+#[derive(Clone, Copy)]
+pub(crate) struct Shown<'a>(pub(crate) Properties<'a>);
+
+impl fmt::Display for Shown<'_> {
+    fn fmt<W: fmt::Write>(&self, f: &mut fmt::Formatter<W>) -> fmt::Result {
+        let p = &self.0;
+        show(f, "topic-name", p.name.map(Quoted))?;
+        show(f, "topic-data", p.data_address.map(Quoted))?;
+        show(f, "resource-type", p.resource_type.map(Quoted))?;
+        show(f, "topic-content-format", p.content_format)?;
+        show(f, "topic-type", p.topic_type.map(Quoted))?;
+        show(f, "expiration-date", p.expiration)?;
+        show(f, "max-subscribers", p.max_subscribers)?;
+        show(f, "observer-check", p.observer_check)
+    }
 }

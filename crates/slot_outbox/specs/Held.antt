@@ -1,7 +1,6 @@
 -- What a slot outbox holds, and what fits.
 use Rattle.std.specs.Prelude.{ℕ, ◌+◌, Bool, ◌&&◌, List, map, length, nat_le}
 use Rattle.outbox.specs.Notes.{Note, proper_batch}
-use Rattle.outbox.specs.Rings.{ring}
 use Rattle.slot_outbox.specs.declared.slot.Slot.{Slot}
 use Rattle.slot_outbox.specs.declared.slots.Slots.{Slots}
 use Rattle.slot_outbox.specs.Slots.{note_in}
@@ -9,11 +8,11 @@ use Rattle.slot_outbox.specs.Slots.{note_in}
 module _ {C : Type 0} where
   -- the slots in use, the oldest message first
   abbrev pub held : Slots C → List (Slot C)
-  held q = ring q.start q.len q.row.slots.now
+  held q = q.ring.items
 
   -- how many slots there are
   abbrev pub capacity_of : Slots C → ℕ
-  capacity_of q = length q.row.slots.now
+  capacity_of q = q.ring.capacity
 
   -- the messages that wait
   abbrev pub waiting_in : (C → List ℕ) → Slots C → List Note

@@ -1,7 +1,6 @@
 // An outbox in slots that the caller lends: each message is kept with a payload of its own.
 #![tactic(auto)]
 
-mod row;
 mod slot;
 mod slots;
 

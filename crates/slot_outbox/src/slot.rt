@@ -1,10 +1,38 @@
-// A slot: the place of one message.
-use clients::Subscriber;
-use outbox::{Content, Payload};
+// A slot: the place of one message, with its payload.
+ghost use Rattle.std.specs.Prelude.{◌≡◌, ◌≤◌, length, take};
+ghost use Rattle.clients.specs.Subs.{sub_of};
+ghost use Rattle.outbox.specs.Answers.{Gives};
+ghost use Rattle.slot_outbox.specs.Slots.{note_in};
+
+use clients::{Client, Subscriber};
+use outbox::{Content, Message, Payload};
 
 #[derive(Clone, Copy)]
 pub struct Slot<C> {
     pub subscriber: Subscriber<C>,
     pub content: Content,
     pub payload: Payload,
+}
+
+impl<C: Client> Slot<C> {
+    // Puts a message in; of its payload the first 256 bytes are kept.
+    pub(crate) fn set(&mut self, subscriber: Subscriber<C>, content: Content, payload: &[u8])
+        ensures { note_in C.Client.identity self.new ≡ record { to = sub_of C.Client.identity subscriber; content = content; payload = take 256 payload.now } }
+    {
+        self.subscriber = subscriber;
+        self.content = content;
+        self.payload.set(payload);
+    }
+
+    // Writes the message's payload to the front of the buffer, and gives the rest of it.
+    pub(crate) fn read(&self, out: &mut [u8]) -> Message<C>
+        requires { 256 ≤ length out.old }
+        ensures { Gives C.Client.identity (note_in C.Client.identity self.now) result out.old out.new }
+    {
+        Message {
+            subscriber: self.subscriber,
+            content: self.content,
+            len: self.payload.copy_to(out),
+        }
+    }
 }

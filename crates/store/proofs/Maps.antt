@@ -61,7 +61,7 @@ pub remove_absent : (es : List Entry) (k : Key) → look es k ≡ None → remov
 remove_absent [] k n = refl
 remove_absent (e ∷ es) k n =
     elim (cases_Bool (same_key e.key k)) [
-      | inl y ↦ (let z : ◌≡◌ {A = ℕ} 0 1 = grind arith in absurd (omega arith))
+      | inl y ↦ absurd (grind arith)
       | inr y ↦ cond-false _ _ _ y ∙ ap (λ xs. e ∷ xs) (remove_absent es k (sym (cond-false _ _ _ y) ∙ n))
     ]
 
@@ -108,7 +108,7 @@ length-remove (e ∷ es) k = let ih = length-remove es k in grind (arith, nat_te
 
 -- a key that has a value stands above what all stand above
 pub above_some : (es : List Entry) (k : Key) (r : ℕ) → Above r es → is_some (look es k) ≡ true → r < rank k
-above_some [] k r a h = let z : ◌≡◌ {A = ℕ} 0 1 = grind arith in absurd (omega arith)
+above_some [] k r a h = cc
 above_some (e ∷ es) k r a h =
     elim (cases_Bool (same_key e.key k)) [
       | inl y ↦ subst (λ (j : Key). r < rank j) (key-is e.key k y) a.0
@@ -141,7 +141,7 @@ entry-is : (e f : Entry) → e.key ≡ f.key → e.value ≡ f.value → e ≡ f
 entry-is e f p q = ap (λ k. record { key = k; value = e.value }) p ∙ ap (λ v. record { key = f.key; value = v }) q
 
 some_none : {A : Type 0} (o : Option A) (a : A) → o ≡ Some a → o ≡ None → ⊥
-some_none o a p q = let z : ◌≡◌ {A = ℕ} 0 1 = cc in omega arith
+some_none o a p q = cc
 
 some_is : (o : Option (List ℕ)) (a b : List ℕ) → o ≡ Some a → o ≡ Some b → a ≡ b
 some_is o a b p q = cc
@@ -194,6 +194,6 @@ lowest-next (e ∷ es) after s =
 -- two answers that are both the lowest are one
 pub lowest_one : (es : List Entry) (after : ℕ) (q r : Option ℕ) → Lowest es after q → Lowest es after r → q ≡ r
 lowest_one es after None None l m = refl
-lowest_one es after None (Some n) l m = let x = l n m.0 in let y = m.1 in let z : ◌≡◌ {A = ℕ} 0 1 = grind arith in absurd (omega arith)
-lowest_one es after (Some n) None l m = let x = m n l.0 in let y = l.1 in let z : ◌≡◌ {A = ℕ} 0 1 = grind arith in absurd (omega arith)
+lowest_one es after None (Some n) l m = let x = l n m.0 in let y = m.1 in cc
+lowest_one es after (Some n) None l m = let x = m n l.0 in let y = l.1 in cc
 lowest_one es after (Some a) (Some b) l m = let x = l.2 b m.0 m.1 in let y = m.2 a l.0 l.1 in ap Some (omega arith)

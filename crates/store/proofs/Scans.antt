@@ -2,10 +2,12 @@
 use Rattle.std.proofs.Common.{◌≡◌, ℕ, ◌<◌, false, ◌&&◌, ◌||◌, eqb, ltb, List, Some, None, Option, refl, ap, arith}
 use Rattle.std.proofs.lemmas.Bool.{cond_both}
 use Rattle.std.proofs.lemmas.Bool.Decides.{nat_tests}
+use Rattle.std.specs.Option.{option_map}
+use Rattle.protocol.specs.declared.names.Handle.{Handle}
 use Rattle.store.specs.declared.key.Key.{Key}
 use Rattle.store.specs.Held.{Entry, put, same_key}
 use Rattle.store.specs.Laws.{Lowest, has_properties}
-use Rattle.store.specs.Scans.{candidate, lower}
+use Rattle.store.specs.Scans.{candidate, lower, topic_above}
 use Rattle.store.proofs.Maps.{look-put}
 
 pub lower_none : (a : Option ℕ) → lower a None ≡ a
@@ -17,6 +19,10 @@ lower_assoc None b c = refl
 lower_assoc (Some a) None c = refl
 lower_assoc (Some a) (Some b) None = refl
 lower_assoc (Some a) (Some b) (Some c) = ap Some (grind (arith, nat_tests))
+
+-- a topic above a handle, as a number
+pub topic_candidate : (k : Key) (after : Handle) → option_map (λ (h : Handle). h.0) (topic_above k after) ≡ candidate k after.0
+topic_candidate k after = grind (arith, nat_tests)
 
 -- the map fs has the properties of the map es, and those of the key
 abbrev pub OneMore : List Entry → Key → List Entry → Type 0

@@ -10,11 +10,8 @@ use protocol::Handle;
 pub fn lower(best: Option<Handle>, key: Key, after: Handle) -> Option<Handle>
     ensures { option_map (λ h. h.0) result ≡ lower_of (option_map (λ h. h.0) best) (candidate key after.0) }
 {
-    if key.part != 0 || key.handle.0 <= after.0 {
-        return best;
-    }
-    match best {
-        Some(b) if b.0 <= key.handle.0 => Some(b),
-        _ => Some(key.handle),
+    match key.topic_above(after) {
+        Some(handle) => Some(best.map_or(handle, |b| b.min(handle))),
+        None => best,
     }
 }

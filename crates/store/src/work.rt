@@ -4,6 +4,7 @@ ghost use Rattle.store.specs.Held.{Entry};
 
 use crate::store::Store;
 
+// A trait and no closure, since a closure takes a store of one type, and the work any.
 pub trait Work {
     type Output;
 

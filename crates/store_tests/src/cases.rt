@@ -1,7 +1,7 @@
 // The calls, and what every store answers to them.
 use protocol::Refusal;
 
-// One call of a store with its answer. A value of so many bytes is told by a seed.
+// One call of a store with its answer. A value of so many bytes is told by a seed, and a part is a number, since bad ones are refused.
 #[derive(Clone, Copy)]
 pub enum Step {
     // handle, part, length, seed, answer

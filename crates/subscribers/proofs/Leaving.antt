@@ -1,127 +1,84 @@
 -- What is left of a list when pairs leave it.
-use Rattle.std.proofs.Common.{◌≡◌, ℕ, suc, ◌+◌, ◌-◌, ◌≤◌, Bool, true, false, cond, not, ◌||◌, eqb, ltb, List, [], ◌∷◌, length, take, filter, sym, refl, ap, ◌∙◌, subst, arith}
-use Rattle.std.proofs.lemmas.List.{length-take-le}
-use Rattle.std.proofs.lemmas.Bool.{lt-ltb, or_from, or_parts}
+use Rattle.std.proofs.Common.{◌≡◌, ℕ, suc, ◌+◌, ◌≤◌, Bool, true, false, cond, not, ◌||◌, ltb, List, [], ◌∷◌, length, sym, refl, ap, ◌∙◌, subst, arith}
+use Rattle.std.proofs.lemmas.Bool.{or_from, or_parts}
 use Rattle.std.proofs.lemmas.Bool.Decides.{nat_tests}
+use Rattle.std.proofs.lemmas.Map.Views.{any-filter_same}
 use Rattle.subscribers.specs.declared.subscription.Subscription.{Subscription}
-use Rattle.subscribers.specs.Pairs.{elsewhere, others, standing_of, standings_of, subscribers_at}
-use Rattle.subscribers.specs.Standing.{Once, Standing, same_pair, stands, without, without_topic}
-use Rattle.subscribers.proofs.Sameness.{same_pair-means, same_pair_sym}
+use Rattle.subscribers.specs.Kept.{Keeps}
+use Rattle.subscribers.specs.Pairs.{Few, standing_of, standings_of, subscribers_at}
+use Rattle.subscribers.specs.Standing.{Once, Standing, same_pair, stands, without}
+use Rattle.subscribers.proofs.Sameness.{same_pair-means}
 
 -- one pair leaves
 
 module _ (x : Standing) where
-  gone_by : (b : Bool) (y : Standing) (ys : List Standing) → same_pair y x ≡ b → stands ys x ≡ false → stands (cond b ys (y ∷ ys)) x ≡ false
-  gone_by true y ys e h = h
-  gone_by false y ys e h = or_from _ _ e h
-
   -- it does not stand any more
   pub without_gone : (l : List Standing) → stands (without x l) x ≡ false
-  without_gone [] = refl
-  without_gone (y ∷ ys) = gone_by (same_pair y x) y (without x ys) refl (without_gone ys)
-
-  rest_by : (b : Bool) (z y : Standing) (ws ys : List Standing) → same_pair y x ≡ b → same_pair z x ≡ false → stands ws z ≡ stands ys z → stands (cond b ws (y ∷ ws)) z ≡ (same_pair y z || stands ys z)
-  rest_by true z y ws ys e ne h =
-      let other : same_pair y z ≡ false = ap (λ w. same_pair w z) (same_pair-means y x e) ∙ same_pair_sym x z ∙ ne in
-      h ∙ sym (ap (λ b. b || stands ys z) other)
-  rest_by false z y ws ys e ne h = ap (λ b. same_pair y z || b) h
+  without_gone l = any-filter_same (λ y. same_pair y x) (λ y. not (same_pair y x)) false (λ y e. ap not e) l
 
   -- every other pair stands as before
   pub without-rest : (l : List Standing) (z : Standing) → same_pair z x ≡ false → stands (without x l) z ≡ stands l z
-  without-rest [] z ne = refl
-  without-rest (y ∷ ys) z ne = rest_by (same_pair y x) z y (without x ys) ys refl ne (without-rest ys z ne)
+  without-rest l z ne =
+      any-filter_same (λ y. same_pair y z) (λ y. not (same_pair y x)) true (λ y e. ap not (ap (λ w. same_pair w x) (same_pair-means y z e) ∙ ne)) l
 
-  pub without_shorter : (l : List Standing) → length (without x l) ≤ length l
-  without_shorter [] = omega arith
-  without_shorter (y ∷ ys) = by (same_pair y x) (without_shorter ys)
-    where
-      by : (b : Bool) → length (without x ys) ≤ length ys → length (cond b (without x ys) (y ∷ without x ys)) ≤ suc (length ys)
-      by true ih = omega arith
-      by false ih = omega arith
-
-  -- the list is shorter exactly if the pair stood
-  pub without_tells : (l : List Standing) → ltb (length (without x l)) (length l) ≡ stands l x
-  without_tells [] = refl
-  without_tells (y ∷ ys) = by (same_pair y x) (without_tells ys)
-    where
-      by : (b : Bool) → ltb (length (without x ys)) (length ys) ≡ stands ys x → ltb (length (cond b (without x ys) (y ∷ without x ys))) (suc (length ys)) ≡ (b || stands ys x)
-      by true ih = let short = without_shorter ys in lt-ltb (length (without x ys)) (suc (length ys)) (omega arith)
-      by false ih = grind (arith, nat_tests)
-
-  pub without_none : (l : List Standing) → stands l x ≡ false → without x l ≡ l
+  without_none : (l : List Standing) → stands l x ≡ false → without x l ≡ l
   without_none [] e = refl
   without_none (y ∷ ys) e =
       let parts = or_parts (same_pair y x) (stands ys x) e in
-      ap (λ b. cond b (without x ys) (y ∷ without x ys)) parts.0 ∙ ap (λ l. y ∷ l) (without_none ys parts.1)
+      ap (λ b. cond (not b) (y ∷ without x ys) (without x ys)) parts.0 ∙ ap (λ l. y ∷ l) (without_none ys parts.1)
 
   -- where no pair is there twice, one leaves at most
   pub without_one : (l : List Standing) → Once l → length (without x l) + cond (stands l x) 1 0 ≡ length l
   without_one [] once = refl
   without_one (y ∷ ys) once = by (same_pair y x) refl (without_one ys once.1)
     where
-      by : (b : Bool) → same_pair y x ≡ b → length (without x ys) + cond (stands ys x) 1 0 ≡ length ys → length (cond b (without x ys) (y ∷ without x ys)) + cond (b || stands ys x) 1 0 ≡ suc (length ys)
+      by : (b : Bool) → same_pair y x ≡ b → length (without x ys) + cond (stands ys x) 1 0 ≡ length ys → length (cond (not b) (y ∷ without x ys) (without x ys)) + cond (b || stands ys x) 1 0 ≡ suc (length ys)
       by true e ih =
           let new : stands ys x ≡ false = subst (λ w. stands ys w ≡ false) (same_pair-means y x e) once.0 in
           omega (arith, ap length (without_none ys new))
       by false e ih = omega arith
 
-module _ {C : Type 0} (id : C → List ℕ) where
-  -- what the pairs other than x mean
-  pub standings-others : (x : Standing) (ps : List (Subscription C)) → standings_of id (others id x ps) ≡ without x (standings_of id ps)
-  standings-others x [] = refl
-  standings-others x (p ∷ ps) = by (same_pair (standing_of id p) x) (standings-others x ps)
+  -- so the list is shorter exactly if the pair stood
+  pub without_tells : (l : List Standing) → Once l → ltb (length (without x l)) (length l) ≡ stands l x
+  without_tells l once = by (stands l x) (without_one l once)
     where
-      by : (b : Bool) → standings_of id (others id x ps) ≡ without x (standings_of id ps) → standings_of id (cond (not b) (p ∷ others id x ps) (others id x ps)) ≡ cond b (without x (standings_of id ps)) (standing_of id p ∷ without x (standings_of id ps))
-      by true ih = ih
-      by false ih = ap (λ l. standing_of id p ∷ l) ih
+      by : (b : Bool) → length (without x l) + cond b 1 0 ≡ length l → ltb (length (without x l)) (length l) ≡ b
+      by true e = grind (arith, nat_tests)
+      by false e = grind (arith, nat_tests)
 
-  -- what the pairs of other handles mean
-  pub standings-elsewhere : (h : ℕ) (ps : List (Subscription C)) → standings_of id (elsewhere h ps) ≡ without_topic h (standings_of id ps)
-  standings-elsewhere h [] = refl
-  standings-elsewhere h (p ∷ ps) = by (eqb p.handle.0 h) (standings-elsewhere h ps)
+-- a test keeps some
+
+module _ {C : Type 0} (R : Subscription C → Bool → Type 0) where
+  -- no handle has more subscribers than before
+  fewer : (h : ℕ) (ps qs : List (Subscription C)) → Keeps R ps qs → length (subscribers_at h qs) ≤ length (subscribers_at h ps)
+  fewer h [] qs e = omega (arith, ap (λ l. length (subscribers_at h l)) e)
+  fewer h (p ∷ ps) qs (b, told, zs, kept, e) =
+      subst (λ l. length (subscribers_at h l) ≤ length (subscribers_at h (p ∷ ps))) (sym e) (by b (fewer h ps zs kept))
     where
-      by : (b : Bool) → standings_of id (elsewhere h ps) ≡ without_topic h (standings_of id ps) → standings_of id (cond (not b) (p ∷ elsewhere h ps) (elsewhere h ps)) ≡ cond b (without_topic h (standings_of id ps)) (standing_of id p ∷ without_topic h (standings_of id ps))
-      by true ih = ih
-      by false ih = ap (λ l. standing_of id p ∷ l) ih
+      by : (b : Bool) → length (subscribers_at h zs) ≤ length (subscribers_at h ps) → length (subscribers_at h (cond b (p ∷ zs) zs)) ≤ length (subscribers_at h (p ∷ ps))
+      by true ih = grind (arith, nat_tests)
+      by false ih = grind (arith, nat_tests)
 
-  module _ (q : Subscription C → Bool) where
-    stands-kept : (x : Standing) (ps : List (Subscription C)) → stands (standings_of id ps) x ≡ false → stands (standings_of id (filter q ps)) x ≡ false
-    stands-kept x [] e = refl
-    stands-kept x (p ∷ ps) e =
-        let parts = or_parts (same_pair (standing_of id p) x) (stands (standings_of id ps) x) e in
-        by (q p) parts.0 (stands-kept x ps parts.1)
+  pub few_kept : (ps qs : List (Subscription C)) → Keeps R ps qs → Few ps → Few qs
+  few_kept ps qs kept few h = omega (arith, fewer h ps qs kept, few h)
+
+  module _ (id : C → List ℕ) where
+    stands_kept : (x : Standing) (ps qs : List (Subscription C)) → Keeps R ps qs → stands (standings_of id ps) x ≡ false → stands (standings_of id qs) x ≡ false
+    stands_kept x [] qs e none = ap (λ l. stands (standings_of id l) x) e
+    stands_kept x (p ∷ ps) qs (b, told, zs, kept, e) none =
+        let parts = or_parts (same_pair (standing_of id p) x) (stands (standings_of id ps) x) none in
+        subst (λ l. stands (standings_of id l) x ≡ false) (sym e) (by b parts.0 (stands_kept x ps zs kept parts.1))
       where
-        by : (b : Bool) → same_pair (standing_of id p) x ≡ false → stands (standings_of id (filter q ps)) x ≡ false → stands (standings_of id (cond b (p ∷ filter q ps) (filter q ps))) x ≡ false
+        by : (b : Bool) → same_pair (standing_of id p) x ≡ false → stands (standings_of id zs) x ≡ false → stands (standings_of id (cond b (p ∷ zs) zs)) x ≡ false
         by true ne ih = or_from _ _ ne ih
         by false ne ih = ih
 
-    -- what is kept of a list without repetition has none
-    pub once-kept : (ps : List (Subscription C)) → Once (standings_of id ps) → Once (standings_of id (filter q ps))
-    once-kept [] once = tt
-    once-kept (p ∷ ps) once = by (q p) (once-kept ps once.1)
+    -- no pair is there twice, as before
+    pub once_kept : (ps qs : List (Subscription C)) → Keeps R ps qs → Once (standings_of id ps) → Once (standings_of id qs)
+    once_kept [] qs e once = subst (λ l. Once (standings_of id l)) (sym e) tt
+    once_kept (p ∷ ps) qs (b, told, zs, kept, e) once =
+        subst (λ l. Once (standings_of id l)) (sym e) (by b (stands_kept (standing_of id p) ps zs kept once.0) (once_kept ps zs kept once.1))
       where
-        by : (b : Bool) → Once (standings_of id (filter q ps)) → Once (standings_of id (cond b (p ∷ filter q ps) (filter q ps)))
-        by true ih = (stands-kept (standing_of id p) ps once.0, ih)
-        by false ih = ih
-
--- all of a topic leave
-
-module _ {C : Type 0} (h : ℕ) where
-  -- it has no subscribers any more
-  pub elsewhere_gone : (ps : List (Subscription C)) → subscribers_at h (elsewhere h ps) ≡ []
-  elsewhere_gone [] = refl
-  elsewhere_gone (p ∷ ps) = let ih = elsewhere_gone ps in grind (arith, nat_tests)
-
-  -- every other topic has those that it had
-  pub elsewhere-rest : (k : ℕ) → (k ≡ h → ⊥) → (ps : List (Subscription C)) → subscribers_at k (elsewhere h ps) ≡ subscribers_at k ps
-  elsewhere-rest k ne [] = refl
-  elsewhere-rest k ne (p ∷ ps) = let ih = elsewhere-rest k ne ps in grind (arith, nat_tests)
-
-  pub elsewhere_count : (ps : List (Subscription C)) → length (elsewhere h ps) + length (subscribers_at h ps) ≡ length ps
-  elsewhere_count [] = refl
-  elsewhere_count (p ∷ ps) = let ih = elsewhere_count ps in grind (arith, nat_tests)
-
-  -- how many left, by the lengths
-  pub left_count : (ps qs : List (Subscription C)) (k n : ℕ) → k ≤ length qs → n ≤ length ps → take k qs ≡ elsewhere h (take n ps) → n - k ≡ length (subscribers_at h (take n ps))
-  left_count ps qs k n kl nl e =
-      omega (arith, elsewhere_count (take n ps), ap length e, length-take-le k qs kl, length-take-le n ps nl)
+        by : (b : Bool) → stands (standings_of id zs) (standing_of id p) ≡ false → Once (standings_of id zs) → Once (standings_of id (cond b (p ∷ zs) zs))
+        by true new ih = (new, ih)
+        by false new ih = ih

@@ -1,6 +1,6 @@
-pub mod Chosen
+pub mod Collecting
+pub mod Keeping
 pub mod Leaving
-pub mod Places
+pub mod Lists
 pub mod Sameness
 pub mod Standings
-pub mod Topics

@@ -1,6 +1,6 @@
 -- The tests of sameness decide equality.
 use Rattle.std.proofs.Common.{◌≡◌, Bool, true, false, Decides, sym, refl, ap, ◌∙◌}
-use Rattle.std.proofs.lemmas.Bool.Decides.{Decides-and, Decides-eqb, Decides-like, Decides-at, same_from_decides}
+use Rattle.std.proofs.lemmas.Bool.Decides.{Decides-and, Decides-eqb, Decides-like, same_from_decides}
 use Rattle.std.proofs.lemmas.Bool.{and_left, and_right, eq-eqb, ne_eqb}
 use Rattle.clients.specs.Subs.{Sub}
 use Rattle.protocol.specs.Bytes.{alike}
@@ -44,10 +44,6 @@ by_token x y q r h dq e dr =
     let second : alike x.sub.who y.sub.who ≡ true = same_from_decides _ _ (alike_decides _ _) dq ∙ e in
     let third : r ≡ alike x.sub.token y.sub.token = same_from_decides _ _ dr (alike_decides _ _) in
     rw (first, second) third
-
--- what the test says is whether the pairs are equal
-pub same_pair_tells : (x y : Standing) (r : Bool) → r ≡ same_pair x y → Decides r (x ≡ y)
-same_pair_tells x y r e = Decides-at r (same_pair x y) e (same_pair_decides x y)
 
 pub same_pair_sym : (x y : Standing) → same_pair x y ≡ same_pair y x
 same_pair_sym x y =

@@ -28,11 +28,7 @@ impl<C: Client> Eviction<C> for Newest {
     ghost names = { λ _ l. newest_named l };
 
     fn choose(&self, subscribers: &[Subscriber<C>]) -> Option<usize> {
-        if subscribers.len() == 0 {
-            None
-        } else {
-            Some(subscribers.len() - 1)
-        }
+        subscribers.len().checked_sub(1)
     }
 }
 
@@ -46,10 +42,6 @@ impl<C: Client> Eviction<C> for Oldest {
     ghost names = { λ _ l. oldest_named l };
 
     fn choose(&self, subscribers: &[Subscriber<C>]) -> Option<usize> {
-        if subscribers.len() == 0 {
-            None
-        } else {
-            Some(0)
-        }
+        (!subscribers.is_empty()).then_some(0)
     }
 }

@@ -1,7 +1,7 @@
 // One pair of the subscriber list.
 ghost use Rattle.std.specs.Prelude.{◌≡◌, Decides};
 ghost use Rattle.subscribers.specs.Standing.{same_pair};
-ghost use Rattle.subscribers.specs.Pairs.{pair_of, standing_of};
+ghost use Rattle.subscribers.specs.Pairs.{standing_of};
 
 use clients::{Client, Subscriber};
 use protocol::Handle;
@@ -14,17 +14,13 @@ pub struct Subscription<C> {
 }
 
 impl<C: Client> Subscription<C> {
-    // Whether this is the pair of that handle and that subscriber.
-    pub fn is(&self, handle: Handle, subscriber: &Subscriber<C>) -> bool
-        ensures answer { result ≡ same_pair (standing_of C.Client.identity self.now) (pair_of C.Client.identity handle subscriber.now) }
-        ensures decides { Decides result (standing_of C.Client.identity self.now ≡ pair_of C.Client.identity handle subscriber.now) }
+    // Whether both are the same pair. By hand, since a client is the same as its kind says, and no derive knows that.
+    pub fn same(&self, other: &Subscription<C>) -> bool
+        ensures answer { result ≡ same_pair (standing_of C.Client.identity self.now) (standing_of C.Client.identity other.now) }
+        ensures decides { Decides result (standing_of C.Client.identity self.now ≡ standing_of C.Client.identity other.now) }
     {
-        if self.handle.0 != handle.0 {
-            return false;
-        }
-        if !self.subscriber.client.same(&subscriber.client) {
-            return false;
-        }
-        self.subscriber.token.same(&subscriber.token)
+        self.handle == other.handle
+            && self.subscriber.client.same(&other.subscriber.client)
+            && self.subscriber.token.same(&other.subscriber.token)
     }
 }

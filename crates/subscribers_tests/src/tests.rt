@@ -26,33 +26,29 @@ fn subscriber<C: Client>(client: C, token: &[u8]) -> Result<Subscriber<C>, Fail>
     Ok(Subscriber { client, token })
 }
 
+fn pair<C: Client>(handle: Handle, subscriber: Subscriber<C>) -> Subscription<C> {
+    Subscription { handle, subscriber }
+}
+
 // What places hold before they are used.
 fn unused<C: Client>(client: C) -> Result<Subscription<C>, Fail> {
     let subscriber = subscriber(client, b"")?;
-    Ok(Subscription {
-        handle: FIRST,
-        subscriber,
-    })
+    Ok(pair(FIRST, subscriber))
 }
 
 fn endpoint() -> Endpoint {
     Endpoint::new([255; 16], 5683)
 }
 
-// Whether both are the same subscriber.
-fn alike<C: Client>(a: &Subscriber<C>, b: &Subscriber<C>) -> bool {
-    a.client.same(&b.client) && a.token.same(&b.token)
-}
-
 fn none<C: Client>(rt: &impl Abort, places: &mut [Subscription<C>], client: C) -> Result<(), Fail> {
     let one = subscriber(client, b"a")?;
     let mut list = Subscribers::new(places);
     assert_eq!(rt; list.places(), 0);
-    assert_eq!(rt; list.add(FIRST, one), Joined::NoPlace);
+    assert_eq!(rt; list.add(pair(FIRST, one)), Joined::NoPlace);
     assert_eq!(rt; list.len(), 0);
-    assert_eq!(rt; list.find(FIRST, &one), None);
+    assert_eq!(rt; list.find(&pair(FIRST, one)), None);
     assert_eq!(rt; list.count(FIRST), 0);
-    assert!(rt; !list.remove(FIRST, &one));
+    assert!(rt; !list.remove(&pair(FIRST, one)));
     assert_eq!(rt; list.remove_all(FIRST), 0);
     Ok(())
 }
@@ -74,16 +70,16 @@ fn single<C: Client>(
     let one = subscriber(a, b"a")?;
     let other = subscriber(b, b"a")?;
     let mut list = Subscribers::new(places);
-    assert_eq!(rt; list.find(LAST, &one), None);
-    assert_eq!(rt; list.add(LAST, one), Joined::Added);
-    assert_eq!(rt; list.add(LAST, one), Joined::Standing);
-    assert_eq!(rt; list.add(LAST, other), Joined::NoPlace);
-    assert_eq!(rt; list.add(FIRST, one), Joined::NoPlace);
-    assert_eq!(rt; list.find(FIRST, &one), None);
-    assert!(rt; !list.remove(LAST, &other));
-    assert!(rt; list.remove(LAST, &one));
-    assert_eq!(rt; list.add(LAST, other), Joined::Added);
-    assert_eq!(rt; list.find(LAST, &other), Some(0));
+    assert_eq!(rt; list.find(&pair(LAST, one)), None);
+    assert_eq!(rt; list.add(pair(LAST, one)), Joined::Added);
+    assert_eq!(rt; list.add(pair(LAST, one)), Joined::Standing);
+    assert_eq!(rt; list.add(pair(LAST, other)), Joined::NoPlace);
+    assert_eq!(rt; list.add(pair(FIRST, one)), Joined::NoPlace);
+    assert_eq!(rt; list.find(&pair(FIRST, one)), None);
+    assert!(rt; !list.remove(&pair(LAST, other)));
+    assert!(rt; list.remove(&pair(LAST, one)));
+    assert_eq!(rt; list.add(pair(LAST, other)), Joined::Added);
+    assert_eq!(rt; list.find(&pair(LAST, other)), Some(0));
     Ok(())
 }
 
@@ -104,7 +100,7 @@ fn one_place(rt: HostRuntime) -> Result<(), Fail> {
 fn fill<C: Client>(rt: &impl Abort, list: &mut Subscribers<'_, C>, client: C) -> Result<(), Fail> {
     for i in 0u8..100 {
         let one = subscriber(client, &[i])?;
-        assert_eq!(rt; list.add(FIRST, one), Joined::Added);
+        assert_eq!(rt; list.add(pair(FIRST, one)), Joined::Added);
     }
     Ok(())
 }
@@ -119,15 +115,15 @@ fn hundred<C: Client>(
     let mut list = Subscribers::new(places);
     fill(rt, &mut list, client)?;
     assert_eq!(rt; list.count(FIRST), 100);
-    assert_eq!(rt; list.add(FIRST, late), Joined::NoPlace);
+    assert_eq!(rt; list.add(pair(FIRST, late)), Joined::NoPlace);
     assert_eq!(rt; list.len(), 100);
-    assert_eq!(rt; list.add(FIRST, first), Joined::Standing);
-    assert_eq!(rt; list.find(FIRST, &first), Some(0));
-    assert_eq!(rt; list.add(LAST, late), Joined::Added);
-    assert_eq!(rt; list.find(LAST, &late), Some(100));
-    assert!(rt; list.remove(FIRST, &first));
-    assert_eq!(rt; list.add(FIRST, late), Joined::Added);
-    assert_eq!(rt; list.find(FIRST, &late), Some(100));
+    assert_eq!(rt; list.add(pair(FIRST, first)), Joined::Standing);
+    assert_eq!(rt; list.find(&pair(FIRST, first)), Some(0));
+    assert_eq!(rt; list.add(pair(LAST, late)), Joined::Added);
+    assert_eq!(rt; list.find(&pair(LAST, late)), Some(100));
+    assert!(rt; list.remove(&pair(FIRST, first)));
+    assert_eq!(rt; list.add(pair(FIRST, late)), Joined::Added);
+    assert_eq!(rt; list.find(&pair(FIRST, late)), Some(100));
     Ok(())
 }
 
@@ -142,7 +138,7 @@ fn hundred_of_a_topic(rt: HostRuntime) -> Result<(), Fail> {
 // One subscriber at the topics 1, 2 and 3.
 fn spread<C: Client>(rt: &impl Abort, list: &mut Subscribers<'_, C>, one: Subscriber<C>) {
     for h in 1u32..4 {
-        assert_eq!(rt; list.add(Handle(h), one), Joined::Added);
+        assert_eq!(rt; list.add(pair(Handle(h), one)), Joined::Added);
     }
 }
 
@@ -151,14 +147,14 @@ fn full<C: Client>(rt: &impl Abort, places: &mut [Subscription<C>], client: C) -
     let mut list = Subscribers::new(places);
     spread(rt, &mut list, one);
     assert_eq!(rt; list.len(), list.places());
-    assert_eq!(rt; list.joining(Handle(4), &one), Joined::NoPlace);
-    assert_eq!(rt; list.add(Handle(4), one), Joined::NoPlace);
-    assert_eq!(rt; list.add(Handle(2), one), Joined::Standing);
-    assert_eq!(rt; list.find(Handle(2), &one), Some(1));
+    assert_eq!(rt; list.joining(&pair(Handle(4), one)), Joined::NoPlace);
+    assert_eq!(rt; list.add(pair(Handle(4), one)), Joined::NoPlace);
+    assert_eq!(rt; list.add(pair(Handle(2), one)), Joined::Standing);
+    assert_eq!(rt; list.find(&pair(Handle(2), one)), Some(1));
     assert_eq!(rt; list.remove_all(Handle(2)), 1);
-    assert_eq!(rt; list.joining(Handle(4), &one), Joined::Added);
-    assert_eq!(rt; list.add(Handle(2), one), Joined::Added);
-    assert_eq!(rt; list.find(Handle(2), &one), Some(2));
+    assert_eq!(rt; list.joining(&pair(Handle(4), one)), Joined::Added);
+    assert_eq!(rt; list.add(pair(Handle(2), one)), Joined::Added);
+    assert_eq!(rt; list.find(&pair(Handle(2), one)), Some(2));
     Ok(())
 }
 
@@ -177,11 +173,11 @@ fn tokens<C: Client>(
 ) -> Result<(), Fail> {
     for token in TOKENS {
         let one = subscriber(client, token)?;
-        assert_eq!(rt; list.add(FIRST, one), Joined::Added);
+        assert_eq!(rt; list.add(pair(FIRST, one)), Joined::Added);
     }
     for (i, token) in TOKENS.iter().enumerate() {
         let one = subscriber(client, token)?;
-        assert_eq!(rt; list.find(FIRST, &one), Some(i));
+        assert_eq!(rt; list.find(&pair(FIRST, one)), Some(i));
     }
     assert_eq!(rt; list.count(FIRST), 8);
     Ok(())
@@ -205,10 +201,10 @@ fn mixed<C: Client>(
     b: Subscriber<C>,
     c: Subscriber<C>,
 ) {
-    assert_eq!(rt; list.add(FIRST, a), Joined::Added);
-    assert_eq!(rt; list.add(LAST, a), Joined::Added);
-    assert_eq!(rt; list.add(FIRST, b), Joined::Added);
-    assert_eq!(rt; list.add(FIRST, c), Joined::Added);
+    assert_eq!(rt; list.add(pair(FIRST, a)), Joined::Added);
+    assert_eq!(rt; list.add(pair(LAST, a)), Joined::Added);
+    assert_eq!(rt; list.add(pair(FIRST, b)), Joined::Added);
+    assert_eq!(rt; list.add(pair(FIRST, c)), Joined::Added);
 }
 
 fn leaving<C: Client>(
@@ -221,16 +217,16 @@ fn leaving<C: Client>(
     let c = subscriber(client, b"c")?;
     let mut list = Subscribers::new(places);
     mixed(rt, &mut list, a, b, c);
-    assert!(rt; list.remove(FIRST, &b));
-    assert!(rt; !list.remove(FIRST, &b));
+    assert!(rt; list.remove(&pair(FIRST, b)));
+    assert!(rt; !list.remove(&pair(FIRST, b)));
     assert_eq!(rt; list.len(), 3);
-    assert_eq!(rt; list.find(FIRST, &a), Some(0));
-    assert_eq!(rt; list.find(LAST, &a), Some(1));
-    assert_eq!(rt; list.find(FIRST, &c), Some(2));
+    assert_eq!(rt; list.find(&pair(FIRST, a)), Some(0));
+    assert_eq!(rt; list.find(&pair(LAST, a)), Some(1));
+    assert_eq!(rt; list.find(&pair(FIRST, c)), Some(2));
     assert_eq!(rt; list.remove_all(FIRST), 2);
     assert_eq!(rt; list.count(FIRST), 0);
     assert_eq!(rt; list.len(), 1);
-    assert_eq!(rt; list.find(LAST, &a), Some(0));
+    assert_eq!(rt; list.find(&pair(LAST, a)), Some(0));
     Ok(())
 }
 
@@ -242,7 +238,7 @@ fn order_is_kept(rt: HostRuntime) -> Result<(), Fail> {
     leaving(&rt, &mut [end; 5], endpoint())
 }
 
-fn refused<C: Client>(
+fn refused<C: Client + Eq>(
     rt: &impl Abort,
     list: &Subscribers<'_, C>,
     work: &mut [Subscriber<C>],
@@ -250,10 +246,10 @@ fn refused<C: Client>(
 ) {
     assert!(rt; work.len() == 99);
     assert_eq!(rt; list.collect(FIRST, work), Err(Refusal::ShortBuffers));
-    assert!(rt; alike(&work[0], other));
+    assert!(rt; work[0] == *other);
 }
 
-fn collecting<C: Client>(
+fn collecting<C: Client + Eq>(
     rt: &impl Abort,
     places: &mut [Subscription<C>],
     short: &mut [Subscriber<C>],
@@ -268,10 +264,9 @@ fn collecting<C: Client>(
     refused(rt, &list, short, &other);
     assert!(rt; work.len() == 100);
     assert_eq!(rt; list.collect(FIRST, work), Ok(3));
-    assert!(rt; alike(&work[0], &a));
-    assert!(rt; alike(&work[1], &b));
-    assert!(rt; alike(&work[2], &c));
-    assert!(rt; alike(&work[3], &other));
+    for (got, wanted) in work.iter().zip(&[a, b, c, other]) {
+        assert!(rt; got == wanted);
+    }
     assert_eq!(rt; list.remove_all(FIRST), 3);
     assert_eq!(rt; list.collect(FIRST, work), Ok(0));
     Ok(())

@@ -1,45 +1,56 @@
--- The lowest topic of a table, found place by place.
-use Rattle.std.proofs.Common.{◌≡◌, ℕ, ◌+◌, ◌<◌, ◌≤◌, Bool, true, false, cond, List, [], ◌∷◌, length, get_or, drop, None, Option, sym, refl, ap, ◌∙◌, subst}
-use Rattle.std.proofs.lemmas.List.{drop_more, drop_all}
-use Rattle.store.specs.declared.key.Key.{Key}
-use Rattle.store.specs.Held.{Entry, put}
+-- The lowest topic of a table, as the least of the handles of its places.
+use Rattle.std.proofs.Common.{◌≡◌, ℕ, List, [], ◌∷◌, Some, None, Option, sym, refl, ap, ◌∙◌, subst}
+use Rattle.std.specs.List.{cons_option, filter_map, fold, reduce}
+use Rattle.std.specs.Option.{option_and_then, option_map}
+use Rattle.protocol.specs.declared.names.Handle.{Handle}
+use Rattle.store.specs.Held.{Entry as MapEntry, put}
 use Rattle.store.specs.Laws.{Lowest}
-use Rattle.store.specs.Scans.{candidate, lower}
-use Rattle.store.proofs.Scans.{lower_assoc, lower_none, lowest-put}
+use Rattle.store.specs.Scans.{lower, topic_above}
+use Rattle.store.proofs.Scans.{lower_assoc, lowest-put, topic_candidate}
+use Rattle.table_store.specs.declared.entry.Entry.{Entry}
 use Rattle.table_store.specs.declared.place.Place.{Place}
-use Rattle.table_store.specs.Places.{map_of, value_of}
+use Rattle.table_store.specs.Places.{map_of, topic_of, with_entry}
 
--- the handle that counts at a place
-abbrev pub own : Place → ℕ → Option ℕ
-own p after = cond p.held (candidate p.key after) None
+-- the number of a handle, if there is one
+abbrev number : Option Handle → Option ℕ
+number o = option_map (λ (h : Handle). h.0) o
 
--- the lowest handle that counts at the places
-abbrev pub least : List Place → ℕ → Option ℕ
-least [] after = None
-least (p ∷ ps) after = lower (own p after) (least ps after)
+-- the lowest of some handles
+abbrev least : List Handle → Option ℕ
+least [] = None
+least (h ∷ hs) = lower (Some h.0) (least hs)
 
--- the lowest handle of a map, and of one to which an entry is put where a place is held
-lowest-held : (held : Bool) (es : List Entry) (k : Key) (v : List ℕ) (after : ℕ) (r : Option ℕ) → Lowest es after r
-    → Lowest (cond held (put es k v) es) after (lower (cond held (candidate k after) None) r)
-lowest-held true es k v after r l = lowest-put es k v after r l
-lowest-held false es k v after r l = l
+least-cons : (o : Option Handle) (hs : List Handle) → least (cons_option o hs) ≡ lower (number o) (least hs)
+least-cons None hs = refl
+least-cons (Some h) hs = refl
 
-lowest-least : (ps : List Place) (after : ℕ) → Lowest (map_of ps) after (least ps after)
+-- a function that gives the lower of two handles
+abbrev pub PicksLower : (Handle → Handle → Handle) → Type 0
+PicksLower f = (a b : Handle) → Some (f a b).0 ≡ lower (Some a.0) (Some b.0)
+
+folded : (f : Handle → Handle → Handle) → PicksLower f → (h : Handle) (hs : List Handle) → Some (fold f h hs).0 ≡ lower (Some h.0) (least hs)
+folded f p h [] = refl
+folded f p h (i ∷ hs) = folded f p (f h i) hs ∙ ap (λ o. lower o (least hs)) (p h i) ∙ lower_assoc (Some h.0) (Some i.0) (least hs)
+
+reduced : (f : Handle → Handle → Handle) → PicksLower f → (hs : List Handle) → number (reduce f hs) ≡ least hs
+reduced f p [] = refl
+reduced f p (h ∷ hs) = folded f p h hs
+
+-- the lowest handle of a map, and of one to which an entry is put
+lowest-with : (o : Option Entry) (es : List MapEntry) (after : Handle) (r : Option ℕ) → Lowest es after.0 r
+    → Lowest (with_entry o es) after.0 (lower (number (option_and_then (λ (e : Entry). topic_above e.key after) o)) r)
+lowest-with None es after r l = l
+lowest-with (Some e) es after r l =
+    subst (λ o. Lowest (put es e.key e.value.items) after.0 (lower o r)) (sym (topic_candidate e.key after)) (lowest-put es e.key e.value.items after.0 r l)
+
+lowest-least : (ps : List Place) (after : Handle) → Lowest (map_of ps) after.0 (least (filter_map (λ p. topic_of p after) ps))
 lowest-least [] after = λ h b. refl
-lowest-least (p ∷ ps) after = lowest-held p.held (map_of ps) p.key (value_of p) after (least ps after) (lowest-least ps after)
+lowest-least (p ∷ ps) after =
+    let hs = filter_map (λ q. topic_of q after) ps in
+    subst (Lowest (map_of (p ∷ ps)) after.0) (sym (least-cons (topic_of p after) hs)) (lowest-with p.held (map_of ps) after (least hs) (lowest-least ps after))
 
--- one turn of the scan: what is found so far and what is left give the lowest of all
-pub least_more : (ps : List Place) (i : ℕ) (d : Place) (after : ℕ) (best new all : Option ℕ) → i < length ps
-    → lower best (least (drop i ps) after) ≡ all → new ≡ lower best (own (get_or ps i d) after) → lower new (least (drop (i + 1) ps) after) ≡ all
-least_more ps i d after best new all l inv e =
-    ap (λ b. lower b (least (drop (i + 1) ps) after)) e
-    ∙ lower_assoc best (own (get_or ps i d) after) (least (drop (i + 1) ps) after)
-    ∙ sym (ap (λ xs. lower best (least xs after)) (drop_more ps i d l))
-    ∙ inv
-
--- at the end of the scan nothing is left
-pub least_all : (ps : List Place) (i : ℕ) (after : ℕ) (best : Option ℕ) → length ps ≤ i
-    → lower best (least (drop i ps) after) ≡ least ps after → Lowest (map_of ps) after best
-least_all ps i after best l inv =
-    let e : best ≡ least ps after = sym (lower_none best) ∙ sym (ap (λ xs. lower best (least xs after)) (drop_all i ps l)) ∙ inv in
-    subst (Lowest (map_of ps) after) (sym e) (lowest-least ps after)
+-- the lower of each two, from the first on
+pub lowest-min : (f : Handle → Handle → Handle) → PicksLower f → (ps : List Place) (after : Handle)
+    → Lowest (map_of ps) after.0 (number (reduce f (filter_map (λ p. topic_of p after) ps)))
+lowest-min f p ps after =
+    subst (Lowest (map_of ps) after.0) (sym (reduced f p (filter_map (λ q. topic_of q after) ps))) (lowest-least ps after)

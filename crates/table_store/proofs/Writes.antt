@@ -1,135 +1,167 @@
 -- What a write or a release of one place does to the map of a table.
-use Rattle.std.proofs.Common.{◌≡◌, ℕ, ◌+◌, ◌<◌, ◌≤◌, true, false, cond, not, ◌&&◌, ◌||◌, List, [], ◌∷◌, ◌++◌, length, get_or, take, drop, set, Some, None, sym, refl, ap, ◌∙◌, add-one, arith}
-use Rattle.std.proofs.lemmas.List.{length-append, length-drop, take_at, set_split}
-use Rattle.std.proofs.lemmas.Bool.{and_parts, or_parts}
-use Rattle.std.proofs.lemmas.Bool.Decides.{nat_tests}
+use Rattle.std.proofs.Common.{◌≡◌, ℕ, ◌+◌, ◌<◌, Bool, true, false, cond, not, ◌||◌, List, [], ◌∷◌, ◌++◌, length, get_or, take, drop, set, IfSome, Some, None, Option, Ok, Err, sym, refl, ap, subst, ◌∙◌, add-one, arith}
+use Rattle.std.specs.Option.{option_map_or}
+use Rattle.std.proofs.lemmas.List.{set_split}
+use Rattle.std.proofs.lemmas.List.Folds.{list_any-append}
+use Rattle.std.proofs.lemmas.Bool.{or_parts}
+use Rattle.protocol.specs.declared.refusal.Refusal.TheVariants.{StoreFull}
 use Rattle.store.specs.declared.key.Key.{Key}
-use Rattle.store.specs.Held.{value_limit, proper, same_key, look, put, remove}
-use Rattle.store.proofs.Maps.{key-is, same_key_sym, same_key_like, look-put, look-remove, sound-put, sound-remove, one_map}
+use Rattle.store.specs.Held.{same_key, look, put, put_answer, remove}
+use Rattle.store.proofs.Maps.{key-is, same_key_refl, same_key_like, look-put, look-remove, sound-put, sound-remove, one_map}
+use Rattle.store.proofs.Replies.{put_answers, put_full}
+use Rattle.table_store.specs.declared.entry.Entry.{Entry}
 use Rattle.table_store.specs.declared.place.Place.{Place}
-use Rattle.table_store.specs.Places.{value_of, map_of, holds, some_holds, well, tidy, filled, freed, First, Fit}
-use Rattle.table_store.specs.Laws.{sound-map, tidy-parts}
-use Rattle.table_store.proofs.Tables.{look-place, look_none, tidy_from, room_at, any_place, around, some_holds-append}
+use Rattle.table_store.specs.Places.{Fit, all_held, fits, holds, kept, map_of, some_holds, tidy}
+use Rattle.table_store.specs.Laws.{Tidy, fits-parts, sound-map, tidy-parts}
+use Rattle.table_store.proofs.Tables.{around, freed, full_for, look-place, look_none}
 
-pub replaced : (ps : List Place) (i : ℕ) (q : Place) → i < length ps → set ps i q ≡ take i ps ++ q ∷ drop (i + 1) ps
+-- the place held for the key with the value
+abbrev pub filled : Key → List ℕ → Place
+filled k v = record { held = Some (kept k v) }
+
+replaced : (ps : List Place) (i : ℕ) (q : Place) → i < length ps → set ps i q ≡ take i ps ++ q ∷ drop (i + 1) ps
 replaced ps i q l = set_split ps i q l ∙ simp add-one
 
--- a place may stand for another where no place beside it is held for its key
-pub tidy-replaced : (xs ys : List Place) (p q : Place) → tidy (xs ++ p ∷ ys) ≡ true → well q ≡ true
-    → (q.held && some_holds xs q.key) ≡ false → (q.held && some_holds ys q.key) ≡ false → tidy (xs ++ q ∷ ys) ≡ true
-tidy-replaced [] ys p q t w a b = let r = (tidy-parts p ys t).rest in tidy_from q ys (record { first = w; alone = b; rest = r })
-tidy-replaced (x ∷ xs) ys p q t w a b =
+tidy_from : (p : Place) (ps : List Place) → Tidy p ps → tidy (p ∷ ps) ≡ true
+tidy_from p ps t = let f = t.first in let a = t.alone in let r = t.rest in grind arith
+
+-- an entry that is alone beside some places is so beside others, where no key is held there anew
+alone_from : (o : Option Entry) (ps qs : List Place) → option_map_or (λ (e : Entry). some_holds ps e.key) o false ≡ false
+    → ((k : Key) → option_map_or (λ (e : Entry). same_key e.key k) o false ≡ true → some_holds ps k ≡ false → some_holds qs k ≡ false)
+    → option_map_or (λ (e : Entry). some_holds qs e.key) o false ≡ false
+alone_from None ps qs a f = refl
+alone_from (Some e) ps qs a f = f e.key (same_key_refl e.key) a
+
+-- a place is held for a key as for the same key
+holds_like : (p : Place) (k j : Key) → same_key k j ≡ true → holds p k ≡ holds p j
+holds_like p k j s = ap (holds p) (key-is k j s)
+
+-- the place of an entry that no other place is held for
+pub tidy-replaced : (xs ys : List Place) (p : Place) (k : Key) (v : List ℕ) → tidy (xs ++ p ∷ ys) ≡ true → fits (kept k v) ≡ true
+    → some_holds xs k ≡ false → some_holds ys k ≡ false → tidy (xs ++ filled k v ∷ ys) ≡ true
+tidy-replaced [] ys p k v t w a b = tidy_from (filled k v) ys (record { first = w; alone = b; rest = (tidy-parts p ys t).rest })
+tidy-replaced (x ∷ xs) ys p k v t w a b =
     let r = tidy-parts x (xs ++ p ∷ ys) t in
-    let ih = tidy-replaced xs ys p q r.rest w (grind arith) b in
-    let e = some_holds-append xs (p ∷ ys) x.key in
-    let f = some_holds-append xs (q ∷ ys) x.key in
-    let s = same_key_sym x.key q.key in
-    let l = r.alone in
-    tidy_from x (xs ++ q ∷ ys) (record { first = r.first; alone = grind arith; rest = ih })
+    let m = or_parts (holds x k) (some_holds xs k) a in
+    tidy_from x (xs ++ filled k v ∷ ys) (record {
+      first = r.first;
+      alone = alone_from x.held (xs ++ p ∷ ys) (xs ++ filled k v ∷ ys) r.alone (λ j h n.
+          let e = list_any-append (λ q. holds q j) xs (p ∷ ys) in
+          let f = list_any-append (λ q. holds q j) xs (filled k v ∷ ys) in
+          let l = holds_like x k j in
+          let o = m.0 in
+          grind arith);
+      rest = tidy-replaced xs ys p k v r.rest w m.1 b;
+    })
 
--- no place behind one that is held for a key is held for that key
-pub tidy_behind : (xs ys : List Place) (p : Place) (k : Key) → tidy (xs ++ p ∷ ys) ≡ true → holds p k ≡ true → some_holds ys k ≡ false
-tidy_behind [] ys p k t h =
-    let a = (tidy-parts p ys t).alone in
-    let m = and_parts p.held (same_key p.key k) h in
-    let e = ap (some_holds ys) (key-is p.key k m.1) in grind arith
-tidy_behind (x ∷ xs) ys p k t h = tidy_behind xs ys p k (tidy-parts x (xs ++ p ∷ ys) t).rest h
+-- a place that is freed
+pub tidy-freed : (xs ys : List Place) (p : Place) → tidy (xs ++ p ∷ ys) ≡ true → tidy (xs ++ freed ∷ ys) ≡ true
+tidy-freed [] ys p t = tidy_from freed ys (record { first = refl; alone = refl; rest = (tidy-parts p ys t).rest })
+tidy-freed (x ∷ xs) ys p t =
+    let r = tidy-parts x (xs ++ p ∷ ys) t in
+    tidy_from x (xs ++ freed ∷ ys) (record {
+      first = r.first;
+      alone = alone_from x.held (xs ++ p ∷ ys) (xs ++ freed ∷ ys) r.alone (λ j h n.
+          let e = list_any-append (λ q. holds q j) xs (p ∷ ys) in
+          let f = list_any-append (λ q. holds q j) xs (freed ∷ ys) in
+          grind arith);
+      rest = tidy-freed xs ys p r.rest;
+    })
 
--- no place behind a key's place is held for the key
-pub behind : (ps : List Place) (k : Key) (i : ℕ) → tidy ps ≡ true → First ps k i → some_holds (drop (i + 1) ps) k ≡ false
-behind ps k i t f = tidy_behind (take i ps) (drop (i + 1) ps) (get_or ps i any_place) k (ap tidy (sym (around ps i any_place f.0)) ∙ t) (f.2 any_place)
+-- a place that is held for one key, or free, is held for no other
+only_for : (o : Option Entry) (k j : Key) → option_map_or (λ (e : Entry). same_key e.key k) o true ≡ true → same_key k j ≡ false
+    → option_map_or (λ (e : Entry). same_key e.key j) o false ≡ false
+only_for None k j f n = refl
+only_for (Some e) k j f n = same_key_like e.key k j f ∙ n
 
 -- a key's value written to a place that was free or held for it
-pub look-written : (xs ys : List Place) (p q : Place) (k j : Key) → some_holds xs k ≡ false → (p.held && not (same_key p.key k)) ≡ false
-    → q.held ≡ true → q.key ≡ k → look (map_of (xs ++ q ∷ ys)) j ≡ cond (same_key k j) (Some (value_of q)) (look (map_of (xs ++ p ∷ ys)) j)
-look-written [] ys p q k j n f h e =
-    let lq = look-place q ys j in
+pub look-written : (xs ys : List Place) (p : Place) (k : Key) (v : List ℕ) (j : Key) → some_holds xs k ≡ false
+    → option_map_or (λ (e : Entry). same_key e.key k) p.held true ≡ true
+    → look (map_of (xs ++ filled k v ∷ ys)) j ≡ cond (same_key k j) (Some v) (look (map_of (xs ++ p ∷ ys)) j)
+look-written [] ys p k v j n f =
+    let lq = look-place (filled k v) ys j in
     let lp = look-place p ys j in
-    let s = same_key_like p.key k j in
-    let eq = ap (λ (x : Key). same_key x j) e in grind arith
-look-written (x ∷ xs) ys p q k j n f h e =
-    let lq = look-place x (xs ++ q ∷ ys) j in
+    let o : same_key k j ≡ false → holds p j ≡ false = only_for p.held k j f in grind arith
+look-written (x ∷ xs) ys p k v j n f =
+    let lq = look-place x (xs ++ filled k v ∷ ys) j in
     let lp = look-place x (xs ++ p ∷ ys) j in
     let m = or_parts (holds x k) (some_holds xs k) n in
-    let ih = look-written xs ys p q k j m.1 f h e in
-    let s = same_key_like k j x.key in
-    let s1 = same_key_sym x.key k in
-    let s2 = same_key_sym x.key j in
+    let ih = look-written xs ys p k v j m.1 f in
+    let l = holds_like x k j in
     let m0 = m.0 in grind arith
 
 -- a key's place freed
-pub look-freed : (xs ys : List Place) (p q : Place) (k j : Key) → some_holds xs k ≡ false → some_holds ys k ≡ false → holds p k ≡ true
-    → q.held ≡ false → look (map_of (xs ++ q ∷ ys)) j ≡ cond (same_key k j) None (look (map_of (xs ++ p ∷ ys)) j)
-look-freed [] ys p q k j n b h f =
-    let lq = look-place q ys j in
+pub look-freed : (xs ys : List Place) (p : Place) (k j : Key) → some_holds xs k ≡ false → some_holds ys k ≡ false
+    → option_map_or (λ (e : Entry). same_key e.key k) p.held true ≡ true
+    → look (map_of (xs ++ freed ∷ ys)) j ≡ cond (same_key k j) None (look (map_of (xs ++ p ∷ ys)) j)
+look-freed [] ys p k j n b h =
     let lp = look-place p ys j in
-    let s = same_key_like p.key k j in
+    let o : same_key k j ≡ false → holds p j ≡ false = only_for p.held k j h in
     let z : same_key k j ≡ true → look (map_of ys) j ≡ None = λ y. ap (look (map_of ys)) (sym (key-is k j y)) ∙ look_none ys k b in
     grind arith
-look-freed (x ∷ xs) ys p q k j n b h f =
-    let lq = look-place x (xs ++ q ∷ ys) j in
+look-freed (x ∷ xs) ys p k j n b h =
+    let lq = look-place x (xs ++ freed ∷ ys) j in
     let lp = look-place x (xs ++ p ∷ ys) j in
     let m = or_parts (holds x k) (some_holds xs k) n in
-    let ih = look-freed xs ys p q k j m.1 b h f in
-    let s = same_key_like k j x.key in
-    let s1 = same_key_sym x.key k in
-    let s2 = same_key_sym x.key j in
+    let ih = look-freed xs ys p k j m.1 b h in
+    let l = holds_like x k j in
     let m0 = m.0 in grind arith
 
-pub well-filled : (p : Place) (k : Key) (v : List ℕ) → length p.value ≡ value_limit → proper k ≡ true → length v ≤ value_limit → well (filled p k v) ≡ true
-well-filled p k v r pk l =
-    let e : length (v ++ drop (length v) p.value) ≡ value_limit = simp (length-append, length-drop) (omega arith) in grind (arith, nat_tests)
-
--- the place of a key is fit for a put
-pub fit-first : (ps : List Place) (k : Key) (i : ℕ) → tidy ps ≡ true → First ps k i → Fit ps k i
-fit-first ps k i t f = (f.0, f.1, behind ps k i t f, λ d. (let h = f.2 d in grind arith))
-
--- a free place is fit for a put of a new key
-pub fit_free : (ps : List Place) (k : Key) (i : ℕ) → i < length ps → some_holds ps k ≡ false → ((d : Place) → (get_or ps i d).held ≡ false) → Fit ps k i
-fit_free ps k i l n h =
-    let p = get_or ps i any_place in
-    let e : (some_holds (take i ps) k || some_holds (p ∷ drop (i + 1) ps) k) ≡ false = sym (some_holds-append (take i ps) (p ∷ drop (i + 1) ps) k) ∙ ap (λ xs. some_holds xs k) (sym (around ps i any_place l)) ∙ n in
-    let q = or_parts (some_holds (take i ps) k) (some_holds (p ∷ drop (i + 1) ps) k) e in
-    (l, q.0, (or_parts (holds p k) (some_holds (drop (i + 1) ps) k) q.1).1, λ d. (let x = h d in grind arith))
-
 -- a value put into a fit place
-pub tidy-put : (ps : List Place) (k : Key) (v : List ℕ) (i : ℕ) (d : Place) → tidy ps ≡ true → proper k ≡ true → length v ≤ value_limit → Fit ps k i
-    → tidy (set ps i (filled (get_or ps i d) k v)) ≡ true
-tidy-put ps k v i d t pk l f =
-    let p = get_or ps i d in
-    let a = around ps i d f.0 in
-    rw (replaced ps i (filled p k v) f.0)
-    (tidy-replaced (take i ps) (drop (i + 1) ps) p (filled p k v) (ap tidy (sym a) ∙ t) (well-filled p k v (room_at ps i d t f.0) pk l) f.1 f.2)
+pub tidy-put : (ps : List Place) (k : Key) (v : List ℕ) (i : ℕ) → tidy ps ≡ true → fits (kept k v) ≡ true → Fit ps k i
+    → tidy (set ps i (filled k v)) ≡ true
+tidy-put ps k v i t w f =
+    rw (replaced ps i (filled k v) f.0)
+    (tidy-replaced (take i ps) (drop (i + 1) ps) (get_or ps i freed) k v (ap tidy (sym (around ps i freed f.0)) ∙ t) w f.1 f.2)
 
-pub map-put : (ps : List Place) (k : Key) (v : List ℕ) (i : ℕ) (d : Place) → tidy ps ≡ true → proper k ≡ true → length v ≤ value_limit → Fit ps k i
-    → map_of (set ps i (filled (get_or ps i d) k v)) ≡ put (map_of ps) k v
-map-put ps k v i d t pk l f =
-    let p = get_or ps i d in
-    let q = filled p k v in
+pub map-put : (ps : List Place) (k : Key) (v : List ℕ) (i : ℕ) → tidy ps ≡ true → fits (kept k v) ≡ true → Fit ps k i
+    → map_of (set ps i (filled k v)) ≡ put (map_of ps) k v
+map-put ps k v i t w f =
+    let p = get_or ps i freed in
+    let q = filled k v in
+    let e = fits-parts (kept k v) w in
     one_map (map_of (set ps i q)) (put (map_of ps) k v)
-    (sound-map (set ps i q) (tidy-put ps k v i d t pk l f)) (sound-put (map_of ps) k v pk l (sound-map ps t))
+    (sound-map (set ps i q) (tidy-put ps k v i t w f)) (sound-put (map_of ps) k v e.key e.len (sound-map ps t))
     (λ j _. ap (λ xs. look (map_of xs) j) (replaced ps i q f.0)
-    ∙ look-written (take i ps) (drop (i + 1) ps) p q k j f.1 (f.3 d) refl refl
-    ∙ ap (λ w. cond (same_key k j) (Some w) (look (map_of (take i ps ++ p ∷ drop (i + 1) ps)) j)) (take_at v (drop (length v) p.value) (length v) refl)
-    ∙ ap (λ xs. cond (same_key k j) (Some v) (look (map_of xs) j)) (sym (around ps i d f.0))
+    ∙ look-written (take i ps) (drop (i + 1) ps) p k v j f.1 (f.3 freed)
+    ∙ ap (λ xs. cond (same_key k j) (Some v) (look (map_of xs) j)) (sym (around ps i freed f.0))
     ∙ sym (look-put (map_of ps) k v j))
 
 -- a key's place freed
-pub tidy-remove : (ps : List Place) (k : Key) (i : ℕ) (d : Place) → tidy ps ≡ true → First ps k i → tidy (set ps i (freed (get_or ps i d))) ≡ true
-tidy-remove ps k i d t f =
-    let p = get_or ps i d in
-    let w = room_at ps i d t f.0 in
-    rw (replaced ps i (freed p) f.0)
-    (tidy-replaced (take i ps) (drop (i + 1) ps) p (freed p) (ap tidy (sym (around ps i d f.0)) ∙ t) (grind (arith, nat_tests)) refl refl)
+pub tidy-remove : (ps : List Place) (i : ℕ) → tidy ps ≡ true → i < length ps → tidy (set ps i freed) ≡ true
+tidy-remove ps i t l =
+    rw (replaced ps i freed l) (tidy-freed (take i ps) (drop (i + 1) ps) (get_or ps i freed) (ap tidy (sym (around ps i freed l)) ∙ t))
 
-pub map-remove : (ps : List Place) (k : Key) (i : ℕ) (d : Place) → tidy ps ≡ true → First ps k i
-    → map_of (set ps i (freed (get_or ps i d))) ≡ remove (map_of ps) k
-map-remove ps k i d t f =
-    let p = get_or ps i d in
-    let q = freed p in
-    one_map (map_of (set ps i q)) (remove (map_of ps) k)
-    (sound-map (set ps i q) (tidy-remove ps k i d t f)) (sound-remove (map_of ps) k (sound-map ps t))
-    (λ j _. ap (λ xs. look (map_of xs) j) (replaced ps i q f.0)
-    ∙ look-freed (take i ps) (drop (i + 1) ps) p q k j f.1 (behind ps k i t f) (f.2 d) refl
-    ∙ ap (λ xs. cond (same_key k j) None (look (map_of xs) j)) (sym (around ps i d f.0))
+pub map-remove : (ps : List Place) (k : Key) (i : ℕ) → tidy ps ≡ true → Fit ps k i → map_of (set ps i freed) ≡ remove (map_of ps) k
+map-remove ps k i t f =
+    one_map (map_of (set ps i freed)) (remove (map_of ps) k)
+    (sound-map (set ps i freed) (tidy-remove ps i t f.0)) (sound-remove (map_of ps) k (sound-map ps t))
+    (λ j _. ap (λ xs. look (map_of xs) j) (replaced ps i freed f.0)
+    ∙ look-freed (take i ps) (drop (i + 1) ps) (get_or ps i freed) k j f.1 f.2 (f.3 freed)
+    ∙ ap (λ xs. cond (same_key k j) None (look (map_of xs) j)) (sym (around ps i freed f.0))
     ∙ sym (look-remove (map_of ps) k j (sound-map ps t)))
+
+-- what a put leaves, where it found room
+pub record Written (ps : List Place) (k : Key) (v : List ℕ) (i : ℕ) (e : Entry) : Type 0 where
+  pub neat : tidy (set ps i (record { held = Some e })) ≡ true
+  pub map : map_of (set ps i (record { held = Some e })) ≡ put (map_of ps) k v
+
+pub written : (ps : List Place) (k : Key) (v : List ℕ) (i : ℕ) (e : Entry) (r : Option ℕ) → tidy ps ≡ true → (e ≡ kept k v) × (fits e ≡ true)
+    → r ≡ Some i → IfSome r (Fit ps k) → Written ps k v i e
+written ps k v i e r t h s f =
+    let w = ap fits (sym h.0) ∙ h.1 in
+    let g : Fit ps k i = subst (λ o. IfSome o (Fit ps k)) s f in
+    record {
+      neat = ap (λ (d : Entry). tidy (set ps i (record { held = Some d }))) h.0 ∙ tidy-put ps k v i t w g;
+      map = ap (λ (d : Entry). map_of (set ps i (record { held = Some d }))) h.0 ∙ map-put ps k v i t w g;
+    }
+
+-- what a put answers: whether it found room
+pub put_told : (ps : List Place) (n : ℕ) (k : Key) (v : List ℕ) (e : Entry) (b : Bool) → tidy ps ≡ true → length ps ≡ n → (e ≡ kept k v) × (fits e ≡ true)
+    → b ≡ (some_holds ps k || not (all_held ps)) → put_answer (map_of ps) n k v ≡ cond b (Ok tt) (Err StoreFull)
+put_told ps n k v e true t l h b =
+    let f = fits-parts (kept k v) (ap fits (sym h.0) ∙ h.1) in
+    put_answers (map_of ps) n k v f.key f.len (full_for ps n k true t l f.key b)
+put_told ps n k v e false t l h b =
+    let f = fits-parts (kept k v) (ap fits (sym h.0) ∙ h.1) in
+    put_full (map_of ps) n k v f.key f.len (full_for ps n k false t l f.key b)

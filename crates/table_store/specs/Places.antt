@@ -1,57 +1,61 @@
 -- What the places of a table mean: the map of those that are held.
-use Rattle.std.specs.Prelude.{◌≡◌, ℕ, ◌+◌, ◌<◌, Bool, true, false, cond, not, ◌&&◌, ◌||◌, List, [], ◌∷◌, ◌++◌, length, take, drop, ◌==◌, nat_le, slice_index_or}
+use Rattle.std.specs.Prelude.{◌≡◌, ℕ, ◌+◌, ◌<◌, Bool, true, false, not, ◌&&◌, List, [], ◌∷◌, length, take, drop, is_some, None, Some, Option, nat_le, slice_index_or}
+use Rattle.std.specs.List.{list_all, list_any}
+use Rattle.std.specs.Option.{option_and_then, option_map, option_map_or}
+use Rattle.protocol.specs.declared.names.Handle.{Handle}
 use Rattle.store.specs.declared.key.Key.{Key}
-use Rattle.store.specs.Held.{Entry, proper, put, same_key, value_limit}
+use Rattle.store.specs.Held.{Entry as MapEntry, proper, put, same_key, value_limit}
+use Rattle.store.specs.Scans.{topic_above}
+use Rattle.table_store.specs.declared.entry.Entry.{Entry}
 use Rattle.table_store.specs.declared.place.Place.{Place}
 
--- the value of a place: the bytes in front, as many as its length says
-abbrev pub value_of : Place → List ℕ
-value_of p = take p.len p.value
+-- the entry of a key and a value
+abbrev pub kept : Key → List ℕ → Entry
+kept k v = record { key = k; value = record { items = v } }
+
+-- the entry has a proper key and a value within the limit
+abbrev pub fits : Entry → Bool
+fits e = proper e.key && nat_le (length e.value.items) value_limit
+
+-- the value of a place that is held
+abbrev pub value_of : Place → Option (List ℕ)
+value_of p = option_map (λ (e : Entry). e.value.items) p.held
+
+-- the map and an entry, if there is one
+abbrev pub with_entry : Option Entry → List MapEntry → List MapEntry
+with_entry None es = es
+with_entry (Some e) es = put es e.key e.value.items
 
 -- the map of the places that are held
-abbrev pub map_of : List Place → List Entry
+abbrev pub map_of : List Place → List MapEntry
 map_of [] = []
-map_of (p ∷ ps) = cond p.held (put (map_of ps) p.key (value_of p)) (map_of ps)
+map_of (p ∷ ps) = with_entry p.held (map_of ps)
 
 -- the place is held for the key
 abbrev pub holds : Place → Key → Bool
-holds p k = p.held && same_key p.key k
+holds p k = option_map_or (λ (e : Entry). same_key e.key k) p.held false
+
+-- the handle of the properties that the place is held for, if it is above the given one
+abbrev pub topic_of : Place → Handle → Option Handle
+topic_of p after = option_and_then (λ (e : Entry). topic_above e.key after) p.held
 
 -- some place is held for the key
 abbrev pub some_holds : List Place → Key → Bool
-some_holds [] k = false
-some_holds (p ∷ ps) k = holds p k || some_holds ps k
+some_holds ps k = list_any (λ p. holds p k) ps
 
 -- every place is held
 abbrev pub all_held : List Place → Bool
-all_held [] = true
-all_held (p ∷ ps) = p.held && all_held ps
+all_held ps = list_all (λ (p : Place). is_some p.held) ps
 
--- the place has room for the largest value and, where it is held, a proper key and a length within the limit
+-- the entry of the place, if there is one, has a proper key and a value within the limit
 abbrev pub well : Place → Bool
-well p = length p.value == value_limit && (not p.held || (proper p.key && nat_le p.len value_limit))
+well p = option_map_or fits p.held true
 
 -- each place is well, and no key has two
 abbrev pub tidy : List Place → Bool
 tidy [] = true
-tidy (p ∷ ps) = well p && (not (p.held && some_holds ps p.key) && tidy ps)
-
--- the place held for the key with the value in front; the bytes behind it stay
-abbrev pub filled : Place → Key → List ℕ → Place
-filled p k v = record { held = true; key = k; len = length v; value = v ++ drop (length v) p.value }
-
--- the place free, its bytes as they were
-abbrev pub freed : Place → Place
-freed p = record { held = false; key = p.key; len = p.len; value = p.value }
-
--- the first place that is held for the key
-abbrev pub First : List Place → Key → ℕ → Type 0
-First ps k i = (i < length ps) × (some_holds (take i ps) k ≡ false) × ((d : Place) → holds (slice_index_or ps i d) k ≡ true)
-
--- a place that is free
-abbrev pub Free : List Place → ℕ → Type 0
-Free ps i = (i < length ps) × ((d : Place) → (slice_index_or ps i d).held ≡ false) × (all_held ps ≡ false)
+tidy (p ∷ ps) = well p && (not (option_map_or (λ (e : Entry). some_holds ps e.key) p.held false) && tidy ps)
 
 -- a place that a put of the key may write: held for it or free, where no other place is held for it
 abbrev pub Fit : List Place → Key → ℕ → Type 0
-Fit ps k i = (i < length ps) × (some_holds (take i ps) k ≡ false) × (some_holds (drop (i + 1) ps) k ≡ false) × ((d : Place) → ((slice_index_or ps i d).held && not (same_key (slice_index_or ps i d).key k)) ≡ false)
+Fit ps k i = (i < length ps) × (some_holds (take i ps) k ≡ false) × (some_holds (drop (i + 1) ps) k ≡ false) × ((d : Place) → option_map_or (λ (e : Entry). same_key e.key k) (slice_index_or ps i d).held true ≡ true)

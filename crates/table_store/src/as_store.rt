@@ -5,10 +5,11 @@ ghost use Rattle.std.proofs.Common.{subst};
 ghost use Rattle.table_store.specs.Laws.{sound-map, length-map_le, two_places};
 ghost use Rattle.table_store.specs.Places.{map_of};
 
+use crate::entry::Entry;
 use crate::place::Place;
-use crate::scan::{find, lowest, place_for};
-use crate::table::{PLACES, TableStore};
+use crate::table::TableStore;
 use protocol::{Handle, Refusal};
+use std::array;
 use store::{Key, Store, VALUE_LIMIT};
 
 impl TableStore {
@@ -17,8 +18,16 @@ impl TableStore {
         ensures { table_held result ≡ [] }
     {
         TableStore {
-            places: [Place::empty(); PLACES],
+            places: array::from_fn(|_| Place { held: None }),
         }
+    }
+}
+
+impl Default for TableStore {
+    ghost is_default = { λ s. table_held s ≡ [] };
+
+    fn default() -> TableStore {
+        TableStore::new()
     }
 }
 
@@ -34,42 +43,34 @@ impl Store for TableStore {
     ghost within = { λ s. subst (λ n. length (map_of s.places) ≤ n) s.count (length-map_le s.places s.tidy) };
 
     fn get(&self, key: Key, out: &mut [u8]) -> Result<Option<usize>, Refusal> {
-        if !key.is_proper() || out.len() < VALUE_LIMIT {
+        // the two questions that every store asks here; what follows is this one's
+        key.check()?;
+        if out.len() < VALUE_LIMIT {
             return Err(Refusal::BadStoreRequest);
         }
-        match find(&self.places, key) {
-            Some(i) => {
-                let n = self.places[i].copy_to(out);
-                Ok(Some(n))
-            }
+        // A match, since and_then would need a closure with a contract: it writes to the buffer.
+        match self.find(key) {
+            Some(i) => Ok(self.places[i].copy_to(out)),
             None => Ok(None),
         }
     }
 
     fn is_full_for(&self, key: Key) -> bool {
-        key.is_proper() && place_for(&self.places, key).is_none()
+        key.is_proper() && self.place_for(key).is_none()
     }
 
     fn put(&mut self, key: Key, value: &[u8]) -> Result<(), Refusal> {
-        if !key.is_proper() || value.len() > VALUE_LIMIT {
-            return Err(Refusal::BadStoreRequest);
-        }
-        match place_for(&self.places, key) {
-            Some(i) => {
-                self.places[i].fill(key, value);
-                Ok(())
-            }
-            None => Err(Refusal::StoreFull),
-        }
+        let entry = Entry::new(key, value)?;
+        let place = self.place_for(key).ok_or(Refusal::StoreFull)?;
+        self.places[place].held = Some(entry);
+        Ok(())
     }
 
     fn remove(&mut self, key: Key) -> Result<bool, Refusal> {
-        if !key.is_proper() {
-            return Err(Refusal::BadStoreRequest);
-        }
-        match find(&self.places, key) {
+        key.check()?;
+        match self.find(key) {
             Some(i) => {
-                self.places[i].clear();
+                self.places[i].held = None;
                 Ok(true)
             }
             None => Ok(false),
@@ -77,6 +78,9 @@ impl Store for TableStore {
     }
 
     fn next(&self, after: Handle) -> Option<Handle> {
-        lowest(&self.places, after)
+        self.places
+            .iter()
+            .filter_map(|place| place.topic_above(after))
+            .min()
     }
 }

@@ -2,6 +2,7 @@
 #![tactic(auto)]
 
 mod as_store;
+mod entry;
 mod place;
 mod scan;
 mod table;

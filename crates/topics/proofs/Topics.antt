@@ -1,6 +1,9 @@
 -- Properties of a new topic are those of a topic: in range, with an address and a resource type of fixed length.
 use Rattle.std.proofs.Common.{◌≡◌, ℕ, Bool, true, not, ◌&&◌, leb, List, length, is_some, IfSome, Some, None, codes, Option, unwrap_or, refl, ap}
+use Rattle.std.specs.Borrow.{Bor}
+use Rattle.std.specs.Option.{option_eq, option_map}
 use Rattle.std.proofs.lemmas.Bool.{and_parts, and_from}
+use Rattle.protocol.specs.Bytes.{alike}
 use Rattle.protocol.proofs.Bytes.{alike_decides}
 use Rattle.map_writer.proofs.Largest.{ranges}
 use Rattle.maps.specs.Laws.{Topical}
@@ -29,3 +32,8 @@ topical p address l ranged f =
       data_address = l;
       resource_type = sized (codes "core.ps.data") p.resource_type k.0;
     }
+
+-- a text that equals one that is there is given
+pub given : (same : Bor (List ℕ) → Bor (List ℕ) → Bool) (t : Bor (List ℕ)) → ((s : Bor (List ℕ)) → same s t ≡ alike s.now t.now) → (o : Option (Bor (List ℕ))) → option_eq same o (Some t) ≡ gives t.now (option_map (λ x. x.now) o)
+given same t e None = refl
+given same t e (Some s) = e s

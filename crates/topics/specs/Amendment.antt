@@ -1,5 +1,5 @@
 -- How a client's map changes a topic: which maps do, and what the topic's properties are then.
-use Rattle.std.specs.Prelude.{ℕ, Bool, cond, ◌&&◌, List, length, Ok, Err, Option, Result, nat_le}
+use Rattle.std.specs.Prelude.{ℕ, Bool, if◌then◌else◌, ◌&&◌, List, length, Ok, Err, Option, Result, nat_le}
 use Rattle.std.specs.Option.{option_or}
 use Rattle.protocol.specs.declared.fault.Fault.{Fault}
 use Rattle.protocol.specs.declared.refusal.Refusal.{Refusal}
@@ -21,10 +21,7 @@ fixed p g =
 
 -- a replaced topic: its name, addresses and type stay; the other properties are those given, or absent, or their defaults
 abbrev pub replaced : Props → Props → Props
-replaced p g = with_defaults (record {
-  name = p.name;
-  data_address = p.data_address;
-  resource_type = p.resource_type;
+replaced p g = with_defaults (record p {
   content_format = g.content_format;
   topic_type = g.topic_type;
   expiration = g.expiration;
@@ -34,10 +31,7 @@ replaced p g = with_defaults (record {
 
 -- a patched topic: what is given, and the rest as it stood
 abbrev pub patched : Props → Props → Props
-patched p g = record {
-  name = p.name;
-  data_address = p.data_address;
-  resource_type = p.resource_type;
+patched p g = record p {
   content_format = option_or g.content_format p.content_format;
   topic_type = option_or g.topic_type p.topic_type;
   expiration = option_or g.expiration p.expiration;
@@ -53,8 +47,8 @@ changed Patch p g = patched p g
 -- what was read, judged: ranges, and the keys that may not change
 abbrev pub weighed : Amendment → Props → Result Props Fault → Result Props Refusal
 weighed a p (Err f) = Err (Unreadable f)
-weighed a p (Ok g) = cond (in_range g && fixed p g) (Ok (changed a p g)) (Err BadValue)
+weighed a p (Ok g) = if in_range g && fixed p g then Ok (changed a p g) else Err BadValue
 
 -- the properties of a topic once a client's map has changed it, or why the map does not
 abbrev pub amended : Amendment → Props → List ℕ → Result Props Refusal
-amended a p bs = cond (nat_le (length bs) 576) (weighed a p (read_map bs)) (Err TooLarge)
+amended a p bs = if nat_le (length bs) 576 then weighed a p (read_map bs) else Err TooLarge

@@ -1,5 +1,5 @@
 -- What the broker keeps of a topic: the one written form of properties that are whole and belong to the topic's handle.
-use Rattle.std.specs.Prelude.{ℕ, Bool, cond, ◌&&◌, List, is_some, Some, None, Ok, Err, codes, Option, Result}
+use Rattle.std.specs.Prelude.{ℕ, Bool, if◌then◌else◌, ◌&&◌, List, is_some, Some, None, Ok, Err, codes, Option, Result}
 use Rattle.protocol.specs.Addresses.{data_address}
 use Rattle.protocol.specs.Bytes.{alike}
 use Rattle.protocol.specs.declared.fault.Fault.{Fault}
@@ -19,7 +19,7 @@ kept_for h p =
 -- what was read from a value, if it is a topic's and the value is its written form
 abbrev pub recognised : ℕ → List ℕ → Result Props Fault → Option Props
 recognised h v (Err f) = None
-recognised h v (Ok p) = cond (kept_for h p && alike (written p) v) (Some p) None
+recognised h v (Ok p) = if kept_for h p && alike (written p) v then Some p else None
 
 -- the properties that a stored value gives, if it is as the broker writes it for this handle
 abbrev pub stored : ℕ → List ℕ → Option Props

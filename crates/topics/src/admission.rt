@@ -4,7 +4,8 @@ ghost use Rattle.protocol.specs.Bytes.{alike};
 ghost use Rattle.std.specs.Option.{option_map};
 ghost use Rattle.maps.specs.Laws.{Topical};
 ghost use Rattle.maps.specs.Maps.{meant};
-ghost use Rattle.topics.specs.Admission.{admitted, fit, gives, told};
+ghost use Rattle.maps.specs.Reading.{told};
+ghost use Rattle.topics.specs.Admission.{admitted, fit, gives};
 
 use map_writer::{addressed, with_defaults};
 use maps::{Properties, check_range, read};
@@ -17,10 +18,7 @@ const MAX_MAP: usize = 576;
 fn is_topic_type(text: Option<&[u8]>) -> bool
     ensures { result ≡ gives (codes "core.ps.data") (option_map (λ x. x.now) text.entry) }
 {
-    match text {
-        Some(t) => t == b"core.ps.data".as_slice(),
-        None => false,
-    }
+    text == Some(b"core.ps.data".as_slice())
 }
 
 // Whether the needed keys are given and the forbidden one is not.

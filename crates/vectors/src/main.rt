@@ -5,7 +5,7 @@ ghost use Rattle.std.specs.Prelude.{◌≡◌, ◌∷◌, IfOk};
 
 mod shown;
 
-use crate::shown::{Shown, ShownHead};
+use crate::shown::{Shown, ShownHead, ShownMap};
 use anyhow::Context;
 use maps::{Reader, read};
 use std::alloc::{AllocError, Global};
@@ -27,12 +27,12 @@ fn payload(heap: Global, key: u8, example: &[u8]) -> Result<Vec<u8>, AllocError>
 
 // What is read of an example: its head, the example as a map, and as the value of each key from 0 to 7.
 fn print_example(rt: &HostRuntime, example: &[u8]) -> anyhow::Result<()> {
-    let head = ShownHead(Reader::new(example).head());
-    let map = Shown(read(example));
+    let head = Shown(Reader::new(example).head().map(ShownHead));
+    let map = Shown(read(example).map(ShownMap));
     print!(rt; "head {head} | map {map}")?;
     for key in 0..8 {
         let bytes = payload(rt.alloc(), key, example)?;
-        let value = Shown(read(bytes.as_slice()));
+        let value = Shown(read(bytes.as_slice()).map(ShownMap));
         print!(rt; " | {value}")?;
     }
     println!(rt; "")?;

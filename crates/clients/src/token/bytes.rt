@@ -36,7 +36,7 @@ impl Token {
     pub fn len(&self) -> usize
         ensures { result ≡ length (token_bytes self.now) }
     {
-        self.len as usize
+        usize::from(self.len)
     }
 
     // The token's bytes in front, and zeros behind them.

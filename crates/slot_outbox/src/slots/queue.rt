@@ -1,16 +1,15 @@
 // Making a slot outbox, and its queue.
-ghost use Rattle.std.specs.Prelude.{◌≡◌, ℕ, ◌+◌, ◌<◌, ◌≤◌, false, [], ◌∷◌, ◌++◌, length, is_ok, IfOk, if◌then◌else◌, MatchResult, nat_le};
+ghost use Rattle.std.specs.Prelude.{◌≡◌, ◌+◌, ◌<◌, ◌≤◌, [], ◌∷◌, ◌++◌, length, is_ok, IfOk, MatchResult, nat_le};
 ghost use Rattle.protocol.specs.declared.refusal.Refusal.TheVariants.{ShortMemory};
 ghost use Rattle.clients.specs.Subs.{sub_of};
-ghost use Rattle.outbox.specs.Answers.{post_answer, rest, said, said_len, take_answer, take_buffer, take_len, taken};
-ghost use Rattle.outbox.specs.Notes.{Sound, notes_of};
-ghost use Rattle.slot_outbox.specs.Held.{capacity_of, waiting_in, room_in};
+ghost use Rattle.outbox.specs.Answers.{post_answer};
+ghost use Rattle.slot_outbox.specs.Held.{capacity_of, held, waiting_in, room_in};
+ghost use Rattle.slot_outbox.specs.Laws.{room-sound};
 
 use super::Slots;
-use crate::row::Row;
 use crate::slot::Slot;
 use clients::{Client, Subscriber};
-use outbox::{Content, MAX_PAYLOAD, MAX_SUBSCRIBERS, Message, Outbox, is_proper, place_of};
+use outbox::{Content, MAX_PAYLOAD, MAX_SUBSCRIBERS, Message, Outbox, Ring, check_batch};
 use protocol::Refusal;
 
 impl<'a, C: Client> Slots<'a, C> {
@@ -24,22 +23,27 @@ impl<'a, C: Client> Slots<'a, C> {
             return Err(Refusal::ShortMemory);
         }
         Ok(Slots {
-            row: Row { slots },
-            start: 0,
-            len: 0,
+            ring: Ring::new(slots),
         })
+    }
+
+    // What a post of a batch for so many subscribers, with a payload of so many bytes, answers.
+    fn answer(&self, count: usize, len: usize) -> Result<(), Refusal>
+        ensures { result ≡ post_answer (room_in self.now) count len }
+    {
+        check_batch(count, len, self.ring.free())
     }
 
     // Puts a message behind what waits.
     fn push(&mut self, subscriber: Subscriber<C>, content: Content, payload: &[u8])
-        requires { (self.old.len < capacity_of self.old) × (length payload.now ≤ 256) }
+        requires room { length (held self.old) < capacity_of self.old }
+        requires short { length payload.now ≤ 256 }
         ensures after { waiting_in C.Client.identity self.new ≡ waiting_in C.Client.identity self.old ++ record { to = sub_of C.Client.identity subscriber; content = content; payload = payload.now } ∷ [] }
-        ensures len { self.new.len ≡ self.old.len + 1 }
+        ensures len { length (held self.new) ≡ length (held self.old) + 1 }
         ensures capacity { capacity_of self.new ≡ capacity_of self.old }
     {
-        let at = place_of(self.start, self.len, self.row.slots.len());
-        self.row.write(at, subscriber, content, payload);
-        self.len += 1;
+        self.ring
+            .push_with(|slot| slot.set(subscriber, content, payload));
     }
 }
 
@@ -48,8 +52,12 @@ impl<'a, C: Client> Outbox<C> for Slots<'a, C> {
 
     ghost fits = { room_in };
 
+    ghost places = { λ q. capacity_of q ∷ [] };
+
+    ghost sound = { λ q. room-sound C.Client.identity q.ring q.roomy };
+
     fn has_room(&self, count: usize, len: usize) -> bool {
-        is_proper(count, len) && count <= self.row.slots.len() - self.len
+        self.answer(count, len).is_ok()
     }
 
     fn post(
@@ -57,42 +65,24 @@ impl<'a, C: Client> Outbox<C> for Slots<'a, C> {
         content: Content,
         to: &[Subscriber<C>],
         payload: &[u8],
-    ) -> Result<(), Refusal>
-        ensures answer { result ≡ post_answer (room_in self.old) (length to.now) (length payload.now) }
-        ensures after { waiting_in C.Client.identity self.new ≡ (if is_ok result then waiting_in C.Client.identity self.old ++ notes_of C.Client.identity content payload.now to.now else waiting_in C.Client.identity self.old) }
-        ensures same { is_ok result ≡ false → (n l : ℕ) → room_in self.new n l ≡ room_in self.old n l }
-        ensures sound { Sound (waiting_in C.Client.identity self.old) (room_in self.old) }
-        ensures capacity { capacity_of self.new ≡ capacity_of self.old }
-    {
-        if !is_proper(to.len(), payload.len()) {
-            return Err(Refusal::BadBatch);
-        }
-        if !self.has_room(to.len(), payload.len()) {
-            return Err(Refusal::OutboxFull);
-        }
+    ) -> Result<(), Refusal> {
+        self.answer(to.len(), payload.len())?;
         for subscriber in to {
             self.push(*subscriber, content, payload);
         }
         Ok(())
     }
 
-    fn take(&mut self, out: &mut [u8]) -> Result<Option<Message<C>>, Refusal>
-        ensures answer { said C.Client.identity result out.new ≡ take_answer (waiting_in C.Client.identity self.old) (length out.old) }
-        ensures len { said_len result ≡ take_len (waiting_in C.Client.identity self.old) (length out.old) }
-        ensures buffer { out.new ≡ take_buffer (waiting_in C.Client.identity self.old) out.old }
-        ensures after { waiting_in C.Client.identity self.new ≡ (if taken result then rest (waiting_in C.Client.identity self.old) else waiting_in C.Client.identity self.old) }
-        ensures same { taken result ≡ false → (n l : ℕ) → room_in self.new n l ≡ room_in self.old n l }
-        ensures capacity { capacity_of self.new ≡ capacity_of self.old }
-    {
+    fn take(&mut self, out: &mut [u8]) -> Result<Option<Message<C>>, Refusal> {
+        // the two questions that every outbox asks here; what follows is this one's
         if out.len() < MAX_PAYLOAD {
             return Err(Refusal::BadBatch);
         }
-        if self.len == 0 {
+        let Some(slot) = self.ring.first() else {
             return Ok(None);
-        }
-        let message = self.row.read(self.start, out);
-        self.start = place_of(self.start, 1, self.row.slots.len());
-        self.len -= 1;
+        };
+        let message = slot.read(out);
+        self.ring.drop_first();
         Ok(Some(message))
     }
 }

@@ -2,15 +2,15 @@
 ghost use Rattle.std.specs.Prelude.{◌≡◌, ◌≤◌, [], map, length, take, is_some, IfOk};
 ghost use Rattle.clients.specs.Subs.{sub_of};
 ghost use Rattle.subscribers.specs.Held.{pairs, room, standings};
-ghost use Rattle.subscribers.specs.Pairs.{collect_answer, collect_buffer, pair_of, subscribers_at};
+ghost use Rattle.subscribers.specs.Pairs.{collect_answer, collect_buffer, standing_of, subscribers_at};
 ghost use Rattle.subscribers.specs.Standing.{join_answer, limit, place, stands, subs_at};
 
-use super::scan::{collect_in, count_in, find_in};
-use super::{LIMIT, Subscribers};
+use super::Subscribers;
+use super::scan::collect_in;
 use crate::joined::Joined;
 use crate::subscription::Subscription;
 use clients::{Client, Subscriber};
-use protocol::{Handle, Refusal};
+use protocol::{Handle, MAX_SUBSCRIBERS, Refusal};
 
 impl<'a, C: Client> Subscribers<'a, C> {
     // An empty list that may take as many pairs as there are places.
@@ -35,36 +35,41 @@ impl<'a, C: Client> Subscribers<'a, C> {
         self.places.len()
     }
 
-    // The place of the pair, if it stands.
-    pub fn find(&self, handle: Handle, subscriber: &Subscriber<C>) -> Option<usize>
-        ensures answer { result ≡ place (standings C.Client.identity self.now) (pair_of C.Client.identity handle subscriber.now) }
-        ensures stands { is_some result ≡ stands (standings C.Client.identity self.now) (pair_of C.Client.identity handle subscriber.now) }
+    // The pairs that stand.
+    fn held(&self) -> &[Subscription<C>]
+        ensures { result.now ≡ pairs self.now }
     {
-        let n = self.len;
-        find_in(&self.places[0..n], handle, subscriber)
+        &self.places[..self.len]
+    }
+
+    // The place of the pair, if it stands.
+    pub fn find(&self, pair: &Subscription<C>) -> Option<usize>
+        ensures answer { result ≡ place (standings self.now) (standing_of C.Client.identity pair.now) }
+        ensures stands { is_some result ≡ stands (standings self.now) (standing_of C.Client.identity pair.now) }
+    {
+        self.held().iter().position(|one| one.same(pair))
     }
 
     // How many subscribers the topic has.
     pub fn count(&self, handle: Handle) -> usize
         ensures answer { result ≡ length (subscribers_at handle.0 (pairs self.now)) }
-        ensures standing { result ≡ length (subs_at handle.0 (standings C.Client.identity self.now)) }
+        ensures standing { result ≡ length (subs_at handle.0 (standings self.now)) }
         ensures few { result ≤ limit }
     {
-        let n = self.len;
-        count_in(&self.places[0..n], handle)
+        self.held()
+            .iter()
+            .filter(|one| one.handle == handle)
+            .count()
     }
 
     // What a newcomer would be told.
-    pub fn joining(&self, handle: Handle, subscriber: &Subscriber<C>) -> Joined
-        ensures { result ≡ join_answer (standings C.Client.identity self.now) (room self.now) (pair_of C.Client.identity handle subscriber.now) }
+    pub fn joining(&self, pair: &Subscription<C>) -> Joined
+        ensures { result ≡ join_answer (standings self.now) (room self.now) (standing_of C.Client.identity pair.now) }
     {
-        if self.find(handle, subscriber).is_some() {
+        if self.find(pair).is_some() {
             return Joined::Standing;
         }
-        if self.len >= self.places() {
-            return Joined::NoPlace;
-        }
-        if self.count(handle) >= LIMIT {
+        if self.len >= self.places() || self.count(pair.handle) >= MAX_SUBSCRIBERS {
             return Joined::NoPlace;
         }
         Joined::Added
@@ -74,13 +79,12 @@ impl<'a, C: Client> Subscribers<'a, C> {
     pub fn collect(&self, handle: Handle, work: &mut [Subscriber<C>]) -> Result<usize, Refusal>
         ensures answer { result ≡ collect_answer handle.0 (pairs self.now) (length work.old) }
         ensures buffer { work.new ≡ collect_buffer handle.0 (pairs self.now) work.old }
-        ensures standing { IfOk result (λ n. map (sub_of C.Client.identity) (take n work.new) ≡ subs_at handle.0 (standings C.Client.identity self.now)) }
+        ensures standing { IfOk result (λ n. map (sub_of C.Client.identity) (take n work.new) ≡ subs_at handle.0 (standings self.now)) }
         ensures few { IfOk result (λ n. n ≤ limit) }
     {
-        if work.len() < LIMIT {
+        if work.len() < MAX_SUBSCRIBERS {
             return Err(Refusal::ShortBuffers);
         }
-        let n = self.len;
-        Ok(collect_in(&self.places[0..n], handle, work))
+        Ok(collect_in(self.held(), handle, work))
     }
 }

@@ -2,7 +2,7 @@ use Rattle.std.proofs.Common.{◌≤◌, length, Ok, Err, sym, ap, ◌∙◌, su
 use Rattle.maps.specs.Laws.{Topical}
 use Rattle.maps.specs.Maps.{meant, with_defaults, in_range}
 use Rattle.std.proofs.lemmas.Result.{err_from_is_err_and, IfOk-from_err}
-use Rattle.topics.specs.Admission.{told}
+use Rattle.maps.specs.Reading.{told}
 use Rattle.topics.proofs.Judging.{ranged_out, fitting, passed, failed}
 use Rattle.topics.proofs.Topics.{topical}
 use Rattle.topics.proofs.admission.new_topic.Goals as goal

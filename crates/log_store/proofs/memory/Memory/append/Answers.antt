@@ -1,29 +1,44 @@
-use Rattle.std.proofs.Common.{◌≡◌, ◌+◌, ◌-◌, ◌≤◌, ◌++◌, length, take, ap, ◌∙◌, append_assoc, arith, rules}
+use Rattle.std.proofs.Common.{◌≡◌, ℕ, ◌+◌, ◌-◌, ◌<◌, ◌≤◌, true, List, ◌∷◌, ◌++◌, length, take, sym, ap, ◌∙◌, append_assoc, arith, rules}
 use borrow.Rule.Slice.PartMut.{put_mid}
 use Rattle.std.proofs.lemmas.List.{places}
 use Rattle.std.proofs.lemmas.Slice.{take-put_mid}
-use Rattle.log_store.specs.Format.{trailer}
+use Rattle.log_store.specs.declared.memory.Memory.{Memory}
+use Rattle.store.specs.declared.key.Key.{Key}
+use Rattle.store.specs.Held.{proper}
+use Rattle.log_store.specs.Format.{entries, trailer}
+use Rattle.log_store.specs.Memories.{contents, size}
 use Rattle.log_store.proofs.Format.{length-trailer}
+use Rattle.log_store.proofs.Stores.{Written, appended, entry-fits}
 use Rattle.log_store.proofs.memory.Memory.append.Goals as goal
 
-pub returns : goal.returns
-returns c =
-    let bs = c.args.self.now.bytes.now in
-    let v = c.args.value.now in
-    let from = c.args.self.now.used in
-    let end = from + length v in
-    let one = c.copy_from_slice.new.self in
-    let two = c.copy_from_slice-2.new.self in
-    let a : one ≡ v = c.copy_from_slice.ensures.after in
-    let b : two ≡ trailer c.args.key (length v) = c.copy_from_slice-2.ensures.after ∙ c.write-trailer.ensures in
-    let la = ap length a in
-    let lb : length two ≡ 7 = ap length b ∙ length-trailer c.args.key (length v) in
-    let mid = put_mid from (end - from) bs one in
-    let long : end ≤ length mid = search (rules, places) in
+-- the memory after the value is written behind the log, and the trailer behind the value
+abbrev after : Memory → ℕ → List ℕ → List ℕ → List ℕ
+after m n v t = take (m.used + n + 7) (put_mid (m.used + n) (m.used + n + 7 - (m.used + n)) (put_mid m.used (m.used + n - m.used) m.bytes.now v) t)
+
+behind : (m : Memory) (n : ℕ) (v t : List ℕ) → n ≡ length v → 7 ≡ length t → m.used + n + 7 ≤ size m → after m n v t ≡ contents m ++ (v ++ t)
+behind m n v t p q l =
+    let mid = put_mid m.used (m.used + n - m.used) m.bytes.now v in
+    let long : m.used + n ≤ length mid = search (rules, places) in
+    take-put_mid (m.used + n) (m.used + n + 7 - (m.used + n)) mid t (m.used + n + 7) (omega arith) long
+    ∙ ap (λ x. x ++ t) (take-put_mid m.used (m.used + n - m.used) m.bytes.now v (m.used + n) (omega arith) (omega arith))
+    ∙ append_assoc (contents m) v t
+
+entry : (m : Memory) (k : Key) (value v t : List ℕ) → proper k ≡ true → k.handle.0 < 4294967296 → length value ≤ 576 → m.used + length value + 7 ≤ size m → v ≡ value → t ≡ trailer k (length value)
+    → Written (after m (length value) v t) (record { key = k; value = value } ∷ entries (contents m))
+entry m k value v t p h s l a b =
+    appended (contents m) _ (record { key = k; value = value }) m.log (entry-fits k value p h s)
+    (behind m (length value) v t (sym (ap length a)) (sym (ap length b ∙ length-trailer k (length value))) l
+    ∙ ap (λ x. contents m ++ (x ++ t)) a ∙ ap (λ x. contents m ++ (value ++ x)) b)
+
+pub invariant_of-self-2 : goal.invariant_of-self-2
+invariant_of-self-2 c =
+    let r = c.requires in
     record {
-      len = search (rules, places);
       within = search (rules, places);
-      after = take-put_mid end (end + 7 - end) mid two (end + 7) (omega arith) long
-          ∙ ap (λ x. x ++ two) (take-put_mid from (end - from) bs one end (omega arith) (omega (arith, c.requires)))
-          ∙ ap (λ x. (take from bs ++ x) ++ two) a ∙ ap (λ x. (take from bs ++ v) ++ x) b ∙ append_assoc (take from bs) v (trailer c.args.key (length v));
+      log = (entry c.args.self.now c.args.key c.args.value.now _ _ r.0 (search rules) r.1 r.2 c.copy_from_slice.ensures.after (c.copy_from_slice-2.ensures.after ∙ c.write-trailer.ensures)).log;
     }
+
+pub returns-clause-log : goal.returns-clause-log
+returns-clause-log c =
+    let r = c.requires in
+    (entry c.args.self.now c.args.key c.args.value.now _ _ r.0 (search rules) r.1 r.2 c.copy_from_slice.ensures.after (c.copy_from_slice-2.ensures.after ∙ c.write-trailer.ensures)).are

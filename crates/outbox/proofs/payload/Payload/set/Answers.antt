@@ -1,12 +1,6 @@
 use Rattle.std.proofs.Common.{◌-◌, take, ap, ◌∙◌, arith}
-use Rattle.outbox.proofs.Payloads.{written, written-length}
+use Rattle.outbox.proofs.Payloads.{written}
 use Rattle.outbox.proofs.payload.Payload.set.Goals as goal
-
-pub invariant_of-self : goal.invariant_of-self
-invariant_of-self c = record {
-  place = written-length c.copy_from_slice.new.self c.args.self.now.bytes (c.min-n.result - 0) 256 c.copy_from_slice.ensures.len c.args.self.now.place (omega (arith, c.min-n.ensures));
-  short = omega (arith, c.min-n.ensures);
-}
 
 pub returns : goal.returns
 returns c =

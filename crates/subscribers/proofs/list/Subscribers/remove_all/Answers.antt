@@ -1,50 +1,32 @@
-use Rattle.std.proofs.Common.{◌≡◌, ◌+◌, ◌<◌, not, eqb, length, get_or, take, sym, ap, ◌∙◌, subst, arith}
-use Rattle.std.proofs.lemmas.List.Filters.{FiltersInPlace, FiltersInPlace-more_no, FiltersInPlace-more_set}
-use Rattle.std.proofs.lemmas.Bool.{eq-eqb, ne_eqb}
-use Rattle.subscribers.specs.declared.list.Subscribers.{Subscribers}
+use Rattle.std.proofs.Common.{◌≡◌, eqb, filter, map, not, length, sym, refl, ap, ◌∙◌, arith, rules}
+use Rattle.std.proofs.lemmas.Bool.{eqb-true, ne_eqb, not-false, not-true}
+use Rattle.std.proofs.lemmas.List.{length-map, length-take-le}
+use Rattle.std.proofs.lemmas.List.Filters.{length-filter_both}
 use Rattle.subscribers.specs.Held.{pairs}
-use Rattle.subscribers.specs.Pairs.{elsewhere, standings_of, subscribers_at}
-use Rattle.subscribers.specs.Standing.{Once}
-use Rattle.subscribers.proofs.Leaving.{elsewhere_gone, elsewhere-rest, left_count, once-kept, standings-elsewhere}
-use Rattle.subscribers.proofs.Topics.{few_keeping}
+use Rattle.subscribers.specs.Pairs.{elsewhere, standing_of, standings_of}
+use Rattle.subscribers.proofs.Keeping.{Keeps-filter}
+use Rattle.subscribers.proofs.Lists.{filter-filter_none, filter-filter_same, filter-map}
 use Rattle.subscribers.proofs.list.Subscribers.remove_all.Goals as goal
-use Rattle.subscribers.proofs.list.Subscribers.remove_all.Goals.{then-pair-handle, else-pair-handle}
-
-pub invariant_of-self-then-pair-handle : goal.invariant_of-self-then-pair-handle
-invariant_of-self-then-pair-handle g c =
-    let ys = c.loop-i.self.places.now in
-    let i = c.loop-i.i in
-    let x = get_or ys i c.index-self-i.result in
-    let inside : i < length ys = omega (arith, c.loop-i.invariant.long, c.args.self.now.within) in
-    let kept = FiltersInPlace-more_set {x = x} c.loop-i.invariant inside (ap not (ne_eqb _ _ c.if-pair-handle.true)) (ap (get_or ys i) c.index-self-i.is) in
-    record { within = omega arith; few = few_keeping c.args.self.now.len kept (omega arith) c.args.self.now.few }
-
-pub loop-i-preserved : goal.loop-i-preserved
-loop-i-preserved g c =
-    let ys = c.loop-i.self.places.now in
-    let i = c.loop-i.i in
-    let x = get_or ys i c.index-self-i.result in
-    let inside : i < length ys = omega (arith, c.loop-i.invariant.long, c.args.self.now.within) in
-    let P : Subscribers g.row.C.Denot → Type 0 = λ s. FiltersInPlace (λ p. not (eqb p.handle.0 c.args.handle.0)) c.args.self.now.places.now s.places.now s.len (i + 1) in
-    elim c.if-pair-handle.branch [
-      | then-pair-handle w ↦ subst P (sym w.self-is) (FiltersInPlace-more_set {x = x} c.loop-i.invariant inside (ap not (ne_eqb _ _ w.if-pair-handle.true)) (ap (get_or ys i) c.index-self-i.is))
-      | else-pair-handle w ↦ subst P (sym w.self-is) (FiltersInPlace-more_no {x = x} c.loop-i.invariant inside (ap not (eq-eqb _ _ w.if-pair-handle.false)) (ap (get_or ys i) c.index-self-i.is))
-    ]
 
 pub returns : goal.returns
 returns g c =
-    let h = c.args.handle.0 in
-    let xs = c.args.self.now.places.now in
-    let n = c.args.self.now.len in
-    let end : c.loop-i.i ≡ n = omega arith in
-    let after : pairs c.loop-i.self ≡ elsewhere h (pairs c.args.self.now) = c.loop-i.invariant.front ∙ ap (λ m. elsewhere h (take m xs)) end in
     let id = g.C.Client.identity in
+    let h = c.args.handle.0 in
+    let s = c.args.self.now in
+    let t = c.retain.new.self in
+    let ps = pairs s in
+    let after : pairs t ≡ elsewhere h ps = Keeps-filter _ (λ p. not (eqb p.handle.0 h)) (λ p b k. search rules) ps (pairs t) c.retain.ensures.kept in
+    let short = sym (length-take-le t.len t.places.now t.within) ∙ ap length after in
+    let both = length-filter_both (λ p. eqb p.handle.0 h) (λ p. not (eqb p.handle.0 h)) (λ p. refl) ps in
+    let those = length-map (filter (λ p. eqb p.handle.0 h) ps) (λ p. p.subscriber) in
     record {
-      answer = left_count h xs c.loop-i.self.places.now c.loop-i.self.len n c.loop-i.self.within c.args.self.now.within after;
+      answer = omega (arith, short, both, those, length-take-le s.len s.places.now s.within);
       after = after;
-      standing = ap (standings_of id) after ∙ standings-elsewhere id h (pairs c.args.self.now);
-      gone = ap (subscribers_at h) after ∙ elsewhere_gone h (pairs c.args.self.now);
-      rest = (λ k ne. ap (subscribers_at k) after ∙ elsewhere-rest h k ne (pairs c.args.self.now));
-      once = (λ once. subst (λ ps. Once (standings_of id ps)) (sym after) (once-kept id _ (pairs c.args.self.now) once));
-      capacity = c.loop-i.invariant.long;
+      standing = ap (standings_of id) after ∙ sym (filter-map (standing_of id) (λ y. not (eqb y.handle h)) ps);
+      gone = ap (λ l. map (λ p. p.subscriber) (filter (λ p. eqb p.handle.0 h) l)) after
+          ∙ ap (map (λ p. p.subscriber)) (filter-filter_none (λ p. not (eqb p.handle.0 h)) (λ p. eqb p.handle.0 h) (λ p e. not-true _ e) ps);
+      rest = (λ k ne. ap (λ l. map (λ p. p.subscriber) (filter (λ p. eqb p.handle.0 k) l)) after
+          ∙ ap (map (λ p. p.subscriber)) (filter-filter_same (λ p. not (eqb p.handle.0 h)) (λ p. eqb p.handle.0 k) (λ p e. ne_eqb _ _ (λ i. ne (sym i ∙ eqb-true _ _ (not-false _ e)))) ps));
+      once = t.once;
+      capacity = c.retain.ensures.capacity;
     }

@@ -1,5 +1,6 @@
 use Rattle.std.proofs.Common.{◌≡◌, length, take}
-use Rattle.subscribers.specs.Pairs.{laid, subscribers_at}
+use Rattle.protocol.specs.Buffers.{laid}
+use Rattle.subscribers.specs.Pairs.{subscribers_at}
 use Rattle.subscribers.proofs.list.scan.collect_in.Given as goal
 
 -- those of the pairs so far lie in front

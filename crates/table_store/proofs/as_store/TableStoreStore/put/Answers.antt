@@ -1,39 +1,27 @@
-use Rattle.std.proofs.Common.{true, false, set, sym, refl, ap, ◌∙◌}
+use Rattle.std.proofs.Common.{rules, ◌≡◌, Err, true, false, sym, ◌∙◌}
 use Rattle.std.proofs.lemmas.List.{length-set}
-use Rattle.store.proofs.Replies.{put_answers, put_full}
-use Rattle.table_store.specs.declared.place.Place.{Place}
-use Rattle.table_store.specs.Places.{map_of, tidy}
-use Rattle.table_store.proofs.Tables.{full_for}
-use Rattle.table_store.proofs.Writes.{map-put, tidy-put}
+use Rattle.protocol.specs.declared.refusal.Refusal.TheVariants.{StoreFull}
+use Rattle.table_store.proofs.Writes.{put_told, written}
 use Rattle.table_store.proofs.as_store.TableStoreStore.put.Goals as goal
+
+pub returns-in_err-place-clause-answer : goal.returns-in_err-place-clause-answer
+returns-in_err-place-clause-answer c =
+    let s = c.args.self.now in
+    let e : c.from_residual-in_err-place.result ≡ Err StoreFull = search rules in
+    e ∙ sym (put_told s.places 64 c.args.key c.args.value.now _ false s.tidy s.count c.in_ok-entry.ensures.ok (c.in_err-place.ensures.variant ∙ c.place_for.ensures.answer))
 
 pub invariant_of-self : goal.invariant_of-self
 invariant_of-self c =
-    let s = c.args.self.now in record {
-      count = length-set s.places c.in-Some.i _ ∙ s.count;
-      tidy = ap (λ (q : Place). tidy (set s.places c.in-Some.i q)) c.fill.ensures
-          ∙ tidy-put s.places c.args.key c.args.value.now c.in-Some.i _ s.tidy (sym c.if-not-is_proper.ensures) c.if-value-gt-VALUE_LIMIT.false c.in-Some.ensures.place;
-    }
-
-pub returns-in-Some : goal.returns-in-Some
-returns-in-Some c =
     let s = c.args.self.now in
-    let p = sym c.if-not-is_proper.ensures in
-    let l = c.if-value-gt-VALUE_LIMIT.false in
-    record {
-      answer = sym (put_answers (map_of s.places) 64 c.args.key c.args.value.now p l (full_for s.places 64 c.args.key true s.tidy s.count p c.in-Some.ensures.answer));
-      after = ap (λ (q : Place). map_of (set s.places c.in-Some.i q)) c.fill.ensures
-          ∙ map-put s.places c.args.key c.args.value.now c.in-Some.i _ s.tidy p l c.in-Some.ensures.place;
-      capacity = refl;
-    }
+    let w = written s.places c.args.key c.args.value.now c.in_ok-place.place _ _ s.tidy c.in_ok-entry.ensures.ok c.in_ok-place.ensures.ok_part c.place_for.ensures.place in
+    record { count = length-set s.places c.in_ok-place.place _ ∙ s.count; tidy = w.neat }
 
-pub returns-in-None : goal.returns-in-None
-returns-in-None c =
+pub returns-clause-answer : goal.returns-clause-answer
+returns-clause-answer c =
     let s = c.args.self.now in
-    let p = sym c.if-not-is_proper.ensures in
-    let l = c.if-value-gt-VALUE_LIMIT.false in
-    record {
-      answer = sym (put_full (map_of s.places) 64 c.args.key c.args.value.now p l (full_for s.places 64 c.args.key false s.tidy s.count p c.in-None.ensures.answer));
-      after = refl;
-      capacity = refl;
-    }
+    sym (put_told s.places 64 c.args.key c.args.value.now _ true s.tidy s.count c.in_ok-entry.ensures.ok (c.in_ok-place.ensures.variant ∙ c.place_for.ensures.answer))
+
+pub returns-clause-after : goal.returns-clause-after
+returns-clause-after c =
+    let s = c.args.self.now in
+    (written s.places c.args.key c.args.value.now c.in_ok-place.place _ _ s.tidy c.in_ok-entry.ensures.ok c.in_ok-place.ensures.ok_part c.place_for.ensures.place).map

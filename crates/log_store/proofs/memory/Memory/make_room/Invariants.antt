@@ -1,0 +1,6 @@
+use Rattle.std.proofs.Common.{true}
+use Rattle.log_store.specs.Logs.{stays}
+use Rattle.log_store.proofs.memory.Memory.make_room.Given as goal
+
+abbrev pub ghost-sift : goal.ghost-sift
+ghost-sift a = stays a.stays.0.now true
