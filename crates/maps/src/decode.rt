@@ -14,7 +14,7 @@ pub const EPOCH_SECONDS: u64 = 1;
 
 // The argument of an item of the given major type.
 fn item(reader: &mut Reader<'_>, major: Major) -> Result<u64, Fault>
-    ensures { outcome itself result reader.new ≡ item_of (major_number major) reader.old }
+    ensures { outcome itself result reader.new.now ≡ item_of (major_number major) reader.old.now }
 {
     let head = reader.head()?;
     if head.major != major {
@@ -24,13 +24,13 @@ fn item(reader: &mut Reader<'_>, major: Major) -> Result<u64, Fault>
 }
 
 fn number(reader: &mut Reader<'_>) -> Result<u64, Fault>
-    ensures { outcome itself result reader.new ≡ number_of reader.old }
+    ensures { outcome itself result reader.new.now ≡ number_of reader.old.now }
 {
     item(reader, Major::Unsigned)
 }
 
 fn text<'a>(reader: &mut Reader<'a>) -> Result<&'a [u8], Fault>
-    ensures { outcome (λ x. x.now) result reader.new ≡ text_of reader.old }
+    ensures { outcome (λ x. x.now) result reader.new.now ≡ text_of reader.old.now }
 {
     let len = item(reader, Major::Text)?;
     reader.text(len)
@@ -38,7 +38,7 @@ fn text<'a>(reader: &mut Reader<'a>) -> Result<&'a [u8], Fault>
 
 // A date: its tag, and an unsigned number.
 fn date(reader: &mut Reader<'_>) -> Result<u64, Fault>
-    ensures { outcome itself result reader.new ≡ date_of reader.old }
+    ensures { outcome itself result reader.new.now ≡ date_of reader.old.now }
 {
     if item(reader, Major::Tag)? != EPOCH_SECONDS {
         return Err(Fault::WrongType);
@@ -52,7 +52,7 @@ fn value<'a>(
     key: Key,
     before: Properties<'a>,
 ) -> Result<Properties<'a>, Fault>
-    ensures { outcome meant result reader.new ≡ value_of key (meant before.entry) reader.old }
+    ensures { outcome meant result reader.new.now ≡ value_of key (meant before.entry) reader.old.now }
 {
     match key {
         Key::Name => Ok(Properties {
@@ -92,7 +92,7 @@ fn value<'a>(
 
 // A key and its value, added to what was read before them.
 fn entry<'a>(reader: &mut Reader<'a>, before: Properties<'a>) -> Result<Properties<'a>, Fault>
-    ensures { outcome meant result reader.new ≡ entry_of (meant before.entry) reader.old }
+    ensures { outcome meant result reader.new.now ≡ entry_of (meant before.entry) reader.old.now }
 {
     let key = Key::try_from(number(reader)?)?;
     if before.has(key) {
@@ -107,7 +107,7 @@ fn entries<'a>(
     count: u64,
     before: Properties<'a>,
 ) -> Result<Properties<'a>, Fault>
-    ensures { outcome meant result reader.new ≡ entries_of count (meant before.entry) reader.old }
+    ensures { outcome meant result reader.new.now ≡ entries_of count (meant before.entry) reader.old.now }
 {
     let mut all = before;
     for _ in 0..count {

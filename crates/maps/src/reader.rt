@@ -1,5 +1,6 @@
 // A reader of data items: the bytes that are still to be read, from which heads and texts are taken in turn.
 ghost use Rattle.std.specs.Prelude.{◌≡◌, ℕ, ◌≤◌, List, length, OnErr, ◌==◌};
+ghost use Rattle.std.specs.Borrow.{Bor};
 ghost use Rattle.protocol.specs.Bytes.{be_number};
 ghost use Rattle.maps.specs.Heads.{head_meant, head_of, long_head, major_number};
 ghost use Rattle.maps.specs.Reading.{outcome, parted, taken};
@@ -13,11 +14,11 @@ pub struct Reader<'a> {
     rest: &'a [u8],
 }
 
-// A reader is the bytes that are still to be read.
+// A reader is the bytes that are still to be read, and where they lie.
 impl<'a> Model for Reader<'a> {
-    ghost Value = { List ℕ };
+    ghost Value = { Bor (List ℕ) };
 
-    ghost view = { λ r. r.rest.now };
+    ghost view = { λ r. r.rest };
 }
 
 // The number that up to eight bytes stand for, most significant byte first.
@@ -64,21 +65,21 @@ fn head_of(bytes: &[u8]) -> Result<(Head, &[u8]), Fault>
 impl<'a> Reader<'a> {
     // A reader that has all the bytes before it.
     pub fn new(bytes: &'a [u8]) -> Reader<'a>
-        ensures { result ≡ bytes.now }
+        ensures { result ≡ bytes.entry }
     {
         Reader { rest: bytes }
     }
 
     // Whether all the bytes are read.
     pub fn is_done(&self) -> bool
-        ensures { result ≡ (length self.now == 0) }
+        ensures { result ≡ (length self.now.now == 0) }
     {
         self.rest.is_empty()
     }
 
     // The next head; where there is none, nothing is taken.
     pub fn head(&mut self) -> Result<Head, Fault>
-        ensures answer { outcome head_meant result self.new ≡ head_of self.old }
+        ensures answer { outcome head_meant result self.new.now ≡ head_of self.old.now }
         ensures same { OnErr result (self.new ≡ self.old) }
     {
         let (head, behind) = head_of(self.rest)?;
@@ -88,7 +89,7 @@ impl<'a> Reader<'a> {
 
     // The next bytes, as many as asked for; where there are fewer, nothing is taken.
     pub fn text(&mut self, len: u64) -> Result<&'a [u8], Fault>
-        ensures answer { outcome (λ x. x.now) result self.new ≡ taken len self.old }
+        ensures answer { outcome (λ x. x.now) result self.new.now ≡ taken len self.old.now }
         ensures same { OnErr result (self.new ≡ self.old) }
     {
         let (text, rest) = self.rest.split_at_checked(len as usize).ok_or(Fault::Ends)?;

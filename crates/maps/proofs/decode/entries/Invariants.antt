@@ -3,4 +3,4 @@ use Rattle.maps.specs.Maps.{entries_of, meant}
 use Rattle.maps.proofs.decode.entries.Given as goal
 
 abbrev pub invariant-loop : goal.invariant-loop
-invariant-loop l = entries_of (l.count - l.counter) (meant l.all) l.reader ≡ entries_of l.count (meant l.fn.before) l.initial.reader
+invariant-loop l = entries_of (l.count - l.counter) (meant l.all) l.reader.now ≡ entries_of l.count (meant l.fn.before) l.initial.reader.now
