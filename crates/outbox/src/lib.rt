@@ -12,4 +12,4 @@ pub use message::{Content, Message};
 pub use outbox::{Outbox, check_batch, is_proper};
 pub use payload::Payload;
 pub use protocol::MAX_SUBSCRIBERS;
-pub use ring::Ring;
+pub use ring::{Fill, Ring};

@@ -1,5 +1,5 @@
 // The trait of outboxes: every method is an equality on the list of waiting notes.
-ghost use Rattle.std.specs.Prelude.{◌≡◌, ℕ, Bool, false, List, ◌++◌, length, is_ok, if◌then◌else◌, nat_le};
+ghost use Rattle.std.specs.Prelude.{◌≡◌, ℕ, Bool, false, List, [], ◌++◌, length, is_ok, if◌then◌else◌, nat_le};
 ghost use Rattle.outbox.specs.Notes.{Note, Sound, proper_batch, notes_of};
 ghost use Rattle.outbox.specs.Answers.{post_answer, take_answer, take_len, take_buffer, rest, said, said_len, taken};
 
@@ -36,8 +36,8 @@ pub trait Outbox<C: Client> {
     // whether a batch for so many subscribers, with a payload of so many bytes, fits
     ghost fits: { Self → ℕ → ℕ → Bool };
 
-    // how many places of each kind it has in memory
-    ghost places: { Self → List ℕ };
+    // how many places of each kind it has in memory; none are told where an outbox does not say
+    ghost places: { Self → List ℕ } = { λ _. [] };
 
     // Whether a batch for so many subscribers, with a payload of so many bytes, fits.
     fn has_room(&self, count: usize, len: usize) -> bool

@@ -1,9 +1,18 @@
 // A ring: a queue in places that the caller lends, which goes on at their front when it has come to their end.
-ghost use Rattle.std.specs.Prelude.{◌≡◌, ◌+◌, ◌^◌, ◌<◌, [], ◌∷◌, ◌++◌, length, drop, option_copied, slice_get};
-ghost use Rattle.std.specs.Fn.{FnOnceReturnsAtMut};
+ghost use Rattle.std.specs.Prelude.{◌≡◌, ◌+◌, ◌^◌, ◌<◌, true, false, [], ◌∷◌, ◌++◌, length, drop, nat_lt, option_copied, slice_get};
 ghost use Rattle.outbox.specs.Rings.{place};
 
 use std::marker::Model;
+
+// What is put into a ring, as it is written to its place, in which still lies what was there before.
+// A trait and no closure: a call of a closure would ask of the caller that it may be called.
+pub trait Fill<T> {
+    // what the place is before, and once the item is written
+    ghost fills: { Self → T → T → Type 0 };
+
+    fn fill(&self, place: &mut T)
+        ensures { fills self.now place.old place.new };
+}
 
 // Where the queue stands in the places, as two numbers: the places are the caller's, and there is no heap.
 #[derive(Drop)]
@@ -96,16 +105,20 @@ impl<'a, T> Ring<'a, T> {
         }
     }
 
-    // Puts an item behind the last, by a write to its place, in which still lies what was there before.
-    pub fn push_with<F: FnOnce(&mut T)>(&mut self, write: F)
-        requires room { length self.old.items < self.old.capacity }
-        requires call { F.IsAlwaysCallable write }
-        ensures items { (before : T) × (after : T) × FnOnceReturnsAtMut F.FnOnce write before tt after × (self.new.items ≡ self.old.items ++ after ∷ []) }
+    // Puts an item behind the last, written to its place, and tells whether there was one; where there is none, nothing changes.
+    pub fn push_with<F: Fill<T>>(&mut self, item: &F) -> bool
+        ensures room { result ≡ nat_lt (length self.old.items) self.old.capacity }
+        ensures items { result ≡ true → (before : T) × (after : T) × F.fills item.now before after × (self.new.items ≡ self.old.items ++ after ∷ []) }
+        ensures same { result ≡ false → self.new ≡ self.old }
         ensures len { length self.new.items < 2 ^ 64 }
         ensures capacity { self.new.capacity ≡ self.old.capacity }
     {
+        if self.len >= self.capacity() {
+            return false;
+        }
         let at = place_of(self.start, self.len, self.capacity());
-        write(&mut self.places[at]);
+        item.fill(&mut self.places[at]);
         self.len += 1;
+        true
     }
 }

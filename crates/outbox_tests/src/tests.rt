@@ -1,7 +1,7 @@
 // The checks on each outbox that ships, and what each has of its own.
 use crate::checks::*;
 use clients::Session;
-use outbox::Payload;
+use outbox::{Payload, Ring};
 use protocol::Refusal;
 use shared_outbox::{Entry, Place, Shared};
 use slot_outbox::{Slot, Slots};
@@ -73,4 +73,18 @@ fn contents_run_out(rt: HostRuntime) -> Result<(), Fail> {
     assert_eq!(rt; post(&rt, &mut outbox, 2, 1, 0)?, Ok(()));
     take(&rt, &mut outbox, 2, 0)?;
     is_empty(&rt, &mut outbox)
+}
+
+#[test]
+fn a_ring_takes_as_many_as_it_has_places(rt: HostRuntime) -> Result<(), Fail> {
+    let item = entry()?;
+    let mut places = [item; 2];
+    let mut ring = Ring::new(&mut places);
+    assert!(rt; ring.push_with(&item));
+    assert!(rt; ring.push_with(&item));
+    assert!(rt; !ring.push_with(&item));
+    assert_eq!(rt; ring.free(), 0);
+    ring.drop_first();
+    assert!(rt; ring.push_with(&item));
+    Ok(())
 }

@@ -5,7 +5,7 @@ ghost use Rattle.outbox.specs.Answers.{Gives};
 ghost use Rattle.slot_outbox.specs.Slots.{note_in};
 
 use clients::{Client, Subscriber};
-use outbox::{Content, Message, Payload};
+use outbox::{Content, Fill, Message, Payload};
 
 #[derive(Clone, Copy)]
 pub struct Slot<C> {
@@ -34,5 +34,21 @@ impl<C: Client> Slot<C> {
             content: self.content,
             len: self.payload.copy_to(out),
         }
+    }
+}
+
+// A message as it is put into a slot.
+#[derive(Clone, Copy)]
+pub(crate) struct Sent<'a, C> {
+    pub(crate) subscriber: Subscriber<C>,
+    pub(crate) content: Content,
+    pub(crate) payload: &'a [u8],
+}
+
+impl<C: Client> Fill<Slot<C>> for Sent<'_, C> {
+    ghost fills = { λ s _ after. note_in C.Client.identity after ≡ record { to = sub_of C.Client.identity s.subscriber; content = s.content; payload = take 256 s.payload.now } };
+
+    fn fill(&self, place: &mut Slot<C>) {
+        place.set(self.subscriber, self.content, self.payload);
     }
 }

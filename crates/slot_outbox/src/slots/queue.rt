@@ -7,7 +7,7 @@ ghost use Rattle.slot_outbox.specs.Held.{capacity_of, held, waiting_in, room_in}
 ghost use Rattle.slot_outbox.specs.Laws.{room-sound};
 
 use super::Slots;
-use crate::slot::Slot;
+use crate::slot::{Sent, Slot};
 use clients::{Client, Subscriber};
 use outbox::{Content, MAX_PAYLOAD, MAX_SUBSCRIBERS, Message, Outbox, Ring, check_batch};
 use protocol::Refusal;
@@ -42,8 +42,11 @@ impl<'a, C: Client> Slots<'a, C> {
         ensures len { length (held self.new) ≡ length (held self.old) + 1 }
         ensures capacity { capacity_of self.new ≡ capacity_of self.old }
     {
-        self.ring
-            .push_with(|slot| slot.set(subscriber, content, payload));
+        self.ring.push_with(&Sent {
+            subscriber,
+            content,
+            payload,
+        });
     }
 }
 
