@@ -73,9 +73,10 @@ impl<'a> Memory<'a> {
         self.entries().next_topic(after)
     }
 
-    // Squeezes out the entries of a key.
+    // Squeezes out the entries of a key, and no others.
     pub(crate) fn remove(&mut self, key: Key)
         ensures len { size self.new ≡ size self.old }
+        ensures log { entries (contents self.new) ≡ sifted key false [] (entries (contents self.old)) }
         ensures after { held self.new ≡ remove_from (held self.old) key }
     {
         self.used = sift(&mut self.bytes[..self.used], |_, other| other != key);
