@@ -1,16 +1,19 @@
 // Reads an installer's sheet of property maps, keeps the good ones in a store, and prints what became of each.
 #![tactic(auto)]
 
+ghost use Rattle.std.specs.Prelude.{◌≡◌, false, length, nat_le};
+
 mod keeping;
 mod lines;
 mod options;
 mod text;
 
 use lines::run;
-use log_store::LogStore;
+use log_store::with_log;
 use options::{Kind, parse};
 use std::process::ExitCode;
 use std::{env, fs, io};
+use store::{Store, Work};
 use table_store::TableStore;
 use text::Told;
 
@@ -34,6 +37,30 @@ fn whole_text(rt: &HostRuntime, path: Option<&str>) -> anyhow::Result<String> {
     }
 }
 
+// A sheet to be read into a store. A `Work`, since `with_log` alone says that refused memory stays as it was.
+#[derive(Drop)]
+struct Sheet<'a> {
+    rt: &'a HostRuntime,
+    text: &'a str,
+}
+
+impl Work for Sheet<'_> {
+    type Output = anyhow::Result<()>;
+
+    ghost done = { λ _ _ _ _. Unit {0} };
+
+    fn run<S: Store>(self, store: &mut S) -> anyhow::Result<()> {
+        run(self.rt, self.text, store)
+    }
+}
+
+// The sheet, read into a log store in these bytes; too few are refused, and stay as they were.
+fn in_log(rt: &HostRuntime, text: &str, bytes: &mut [u8]) -> anyhow::Result<()>
+    ensures same { nat_le 1166 (length bytes.old) ≡ false → bytes.new ≡ bytes.old }
+{
+    with_log(bytes, Sheet { rt, text }).map_err(Told)?
+}
+
 fn process(rt: &HostRuntime) -> anyhow::Result<()> {
     let words: Vec<String> = env::args(rt)?.skip(1).collect(rt.alloc())?;
     let options = parse(words.as_slice())?;
@@ -49,8 +76,7 @@ fn process(rt: &HostRuntime) -> anyhow::Result<()> {
         }
         Kind::Log(len) => {
             let mut bytes = vec![in rt.alloc(); 0; len]?;
-            let mut store = LogStore::new(bytes.as_mut_slice()).map_err(Told)?;
-            run(rt, text.as_str(), &mut store)
+            in_log(rt, text.as_str(), bytes.as_mut_slice())
         }
     }
 }
