@@ -56,10 +56,11 @@ impl<'a, C: Client> Subscribers<'a, C> {
         ensures standing { result ≡ length (subs_at handle.0 (standings self.now)) }
         ensures few { result ≤ limit }
     {
+        // summed, since a filter is a loop of its own within that of its `count`
         self.held()
             .iter()
-            .filter(|one| one.handle == handle)
-            .count()
+            .map(|one| u32::from(one.handle == handle))
+            .sum::<u32>() as usize
     }
 
     // What a newcomer would be told.
