@@ -1,11 +1,12 @@
 -- How long heads, entries and whole maps are in their written form.
-use Rattle.std.proofs.Common.{◌≡◌, ℕ, ◌+◌, ◌^◌, ◌≤◌, Bool, true, false, cond, ltb, List, ◌++◌, length, Some, None, refl, ap, ◌∙◌, arith, length-append}
+use Rattle.std.proofs.Common.{◌≡◌, ℕ, ◌+◌, ◌^◌, ◌<◌, ◌≤◌, Bool, true, false, cond, ltb, List, ◌++◌, length, Some, None, Option, refl, ap, ◌∙◌, arith, length-append}
 use Rattle.std.proofs.lemmas.Bool.{cond-true, lt-ltb}
 use Rattle.std.proofs.lemmas.Bool.Decides.{nat_tests}
 use Rattle.maps.specs.Heads.{head_bytes}
 use Rattle.maps.specs.declared.properties.Key.{Key}
 use Rattle.maps.specs.declared.properties.Key.TheVariants.{Name, DataAddress, ResourceType, ContentFormat, TopicType, Expiration, MaxSubscribers, ObserverCheck}
 use Rattle.maps.specs.Maps.{Props, key_number, text_entry, number_entry, date_entry, one_if, has, given, written_entries, written}
+use Rattle.maps.specs.Laws.{Carried, Text}
 
 -- a key's head has one byte
 pub length-key : (k : Key) → length (head_bytes 0 (key_number k)) ≡ 1
@@ -59,6 +60,38 @@ length-written p =
     length-append (head_bytes 5 (given p)) (written_entries p)
     ∙ ap (λ n. n + length (written_entries p)) (length_count p)
     ∙ ap (λ n. 1 + n) (sum (text_entry Name p.name) (text_entry DataAddress p.data_address) (text_entry ResourceType p.resource_type) (number_entry ContentFormat p.content_format) (text_entry TopicType p.topic_type) (date_entry Expiration p.expiration) (number_entry MaxSubscribers p.max_subscribers) (number_entry ObserverCheck p.observer_check))
+
+-- a head has at most nine bytes, whatever its argument, so an entry has few more than its text
+head_le : (m n : ℕ) → length (head_bytes m n) ≤ 9
+head_le m n = grind (arith, nat_tests)
+
+text_lt : (k : Key) (o : Option (List ℕ)) → Text o → length (text_entry k o) < 2 ^ 64 + 10
+text_lt k None h = omega arith
+text_lt k (Some t) h = omega (arith, length-text_of k t, head_le 3 (length t))
+
+number_le : (k : Key) (o : Option ℕ) → length (number_entry k o) ≤ 10
+number_le k None = omega arith
+number_le k (Some n) = omega (arith, length-number_of k n, head_le 0 n)
+
+date_le : (k : Key) (o : Option ℕ) → length (date_entry k o) ≤ 11
+date_le k None = omega arith
+date_le k (Some n) = omega (arith, length-date_of k n, head_le 0 n)
+
+-- and a map that the wire can carry is counted in 128 bits
+pub written_lt : (p : Props) → Carried p → length (written p) < 2 ^ 128
+written_lt p h =
+    omega (
+      arith,
+      length-written p,
+      text_lt Name p.name h.name,
+      text_lt DataAddress p.data_address h.data_address,
+      text_lt ResourceType p.resource_type h.resource_type,
+      number_le ContentFormat p.content_format,
+      text_lt TopicType p.topic_type h.topic_type,
+      date_le Expiration p.expiration,
+      number_le MaxSubscribers p.max_subscribers,
+      number_le ObserverCheck p.observer_check,
+    )
 
 -- what a length tells that is given only where it fits 64 bits
 pub some_from_fits : (n k : ℕ) → Some k ≡ cond (ltb n (2 ^ 64)) (Some n) None → k ≡ n

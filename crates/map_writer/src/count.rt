@@ -3,10 +3,10 @@ ghost use Rattle.map_writer.specs.Counts.{CanCount, Counted, counter_laws};
 
 use crate::sink::Sink;
 
-// How many bytes there are, unless they are more than memory can hold.
+// How many bytes there are. A map may have more than memory can hold, but none has as many as 128 bits can count.
 #[derive(Drop)]
 pub(crate) struct Counter {
-    pub(crate) len: Option<usize>,
+    pub(crate) len: u128,
 }
 
 impl Sink for Counter {
@@ -15,7 +15,7 @@ impl Sink for Counter {
     ghost Takes = { Counted };
 
     fn put(&mut self, bytes: &[u8]) {
-        self.len = self.len.and_then(|len| len.checked_add(bytes.len()));
+        self.len = self.len.wrapping_add(bytes.len() as u128);
     }
 
     ghost laws = { counter_laws };

@@ -13,9 +13,13 @@ use maps::Properties;
 pub fn written_len(p: &Properties<'_>) -> Option<usize>
     ensures answer { result ≡ (if nat_lt (length (written (meant p.now))) (2 ^ 64) then Some (length (written (meant p.now))) else None) }
 {
-    let mut counter = Counter { len: Some(0) };
+    let mut counter = Counter { len: 0 };
     put_map(&mut counter, p);
-    counter.len
+    if counter.len <= usize::MAX as u128 {
+        Some(counter.len as usize)
+    } else {
+        None
+    }
 }
 
 // Writes the one form of the properties to the front of the buffer and gives its length;
