@@ -18,7 +18,9 @@ impl Place {
     pub(crate) fn is_held_for(&self, key: Key) -> bool
         ensures { result ≡ holds self.now key }
     {
-        self.held.as_ref().is_some_and(|entry| entry.key == key)
+        // The handle first, which differs for most keys: the derived `==` asks for the part first.
+        self.held.as_ref().is_some_and(|entry| entry.key.handle == key.handle
+            && entry.key.part == key.part)
     }
 
     // Copies the value, if there is one, to the front of the buffer, and tells its length.
