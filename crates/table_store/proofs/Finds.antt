@@ -15,7 +15,7 @@ use Rattle.table_store.specs.declared.entry.Entry.{Entry}
 use Rattle.table_store.specs.declared.place.Place.{Place}
 use Rattle.table_store.specs.Laws.{tidy-parts}
 use Rattle.table_store.specs.Places.{Fit, all_held, holds, map_of, some_holds, tidy, value_of}
-use Rattle.table_store.proofs.Tables.{around, freed, look-place, look_none}
+use Rattle.table_store.proofs.Tables.{any_place, around, look-place, look_none}
 
 -- i is the first place that passes
 pub record Found {X : Type 0} (p : X → Bool) (xs : List X) (i : ℕ) : Type 0 where
@@ -60,7 +60,7 @@ tidy_behind [] ys p k t h = alone_for p.held ys k (tidy-parts p ys t).alone h
 tidy_behind (x ∷ xs) ys p k t h = tidy_behind xs ys p k (tidy-parts x (xs ++ p ∷ ys) t).rest h
 
 pub behind : (ps : List Place) (k : Key) (i : ℕ) → tidy ps ≡ true → Found (λ p. holds p k) ps i → some_holds (drop (i + 1) ps) k ≡ false
-behind ps k i t f = tidy_behind (take i ps) (drop (i + 1) ps) (get_or ps i freed) k (ap tidy (sym (around ps i freed f.inside)) ∙ t) (f.here freed)
+behind ps k i t f = tidy_behind (take i ps) (drop (i + 1) ps) (get_or ps i any_place) k (ap tidy (sym (around ps i any_place f.inside)) ∙ t) (f.here any_place)
 
 -- the place of a key is fit for a put
 held_for : (o : Option Entry) (k : Key) → option_map_or (λ (e : Entry). same_key e.key k) o false ≡ true → option_map_or (λ (e : Entry). same_key e.key k) o true ≡ true
@@ -77,8 +77,8 @@ free_for (Some e) k h = cc
 
 pub fit_free : (ps : List Place) (k : Key) (i : ℕ) → some_holds ps k ≡ false → Found (λ (p : Place). is_none p.held) ps i → Fit ps k i
 fit_free ps k i n f =
-    let p = get_or ps i freed in
-    let e : (some_holds (take i ps) k || some_holds (p ∷ drop (i + 1) ps) k) ≡ false = sym (list_any-append (λ q. holds q k) (take i ps) (p ∷ drop (i + 1) ps)) ∙ ap (λ xs. some_holds xs k) (sym (around ps i freed f.inside)) ∙ n in
+    let p = get_or ps i any_place in
+    let e : (some_holds (take i ps) k || some_holds (p ∷ drop (i + 1) ps) k) ≡ false = sym (list_any-append (λ q. holds q k) (take i ps) (p ∷ drop (i + 1) ps)) ∙ ap (λ xs. some_holds xs k) (sym (around ps i any_place f.inside)) ∙ n in
     let q = or_parts (some_holds (take i ps) k) (some_holds (p ∷ drop (i + 1) ps) k) e in
     (f.inside, q.0, (or_parts (holds p k) (some_holds (drop (i + 1) ps) k) q.1).1, λ d. free_for (get_or ps i d).held k (f.here d))
 
@@ -113,8 +113,8 @@ some-or (Some i) q = refl
 
 pub own_or_free-some : (ps : List Place) (k : Key) → is_some (own_or_free ps k) ≡ (some_holds ps k || not (all_held ps))
 own_or_free-some ps k =
-    let a = position-some (λ p. holds p k) ps freed _ refl in
-    let b = position-some (λ (p : Place). is_none p.held) ps freed _ refl in
+    let a = position-some (λ p. holds p k) ps any_place _ refl in
+    let b = position-some (λ (p : Place). is_none p.held) ps any_place _ refl in
     let c = all_held-is ps in
     let e = some-or (position (λ p. holds p k) ps) (position (λ (p : Place). is_none p.held) ps) in
     grind arith

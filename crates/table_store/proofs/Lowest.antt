@@ -1,5 +1,5 @@
 -- The lowest topic of a table, as the least of the handles of its places.
-use Rattle.std.proofs.Common.{◌≡◌, ℕ, List, [], ◌∷◌, Some, None, Option, sym, refl, ap, ◌∙◌, subst}
+use Rattle.std.proofs.Common.{◌≡◌, ℕ, List, [], ◌∷◌, take, Some, None, Option, sym, refl, ap, ◌∙◌, subst}
 use Rattle.std.specs.List.{cons_option, filter_map, fold, reduce}
 use Rattle.std.specs.Option.{option_and_then, option_map}
 use Rattle.protocol.specs.declared.names.Handle.{Handle}
@@ -37,17 +37,17 @@ reduced f p [] = refl
 reduced f p (h ∷ hs) = folded f p h hs
 
 -- the lowest handle of a map, and of one to which an entry is put
-lowest-with : (o : Option Entry) (es : List MapEntry) (after : Handle) (r : Option ℕ) → Lowest es after.0 r
-    → Lowest (with_entry o es) after.0 (lower (number (option_and_then (λ (e : Entry). topic_above e.key after) o)) r)
-lowest-with None es after r l = l
-lowest-with (Some e) es after r l =
-    subst (λ o. Lowest (put es e.key e.value.items) after.0 (lower o r)) (sym (topic_candidate e.key after)) (lowest-put es e.key e.value.items after.0 r l)
+lowest-with : (o : Option Entry) (bytes : List ℕ) (es : List MapEntry) (after : Handle) (r : Option ℕ) → Lowest es after.0 r
+    → Lowest (with_entry o bytes es) after.0 (lower (number (option_and_then (λ (e : Entry). topic_above e.key after) o)) r)
+lowest-with None bytes es after r l = l
+lowest-with (Some e) bytes es after r l =
+    subst (λ o. Lowest (put es e.key (take e.len bytes)) after.0 (lower o r)) (sym (topic_candidate e.key after)) (lowest-put es e.key (take e.len bytes) after.0 r l)
 
 lowest-least : (ps : List Place) (after : Handle) → Lowest (map_of ps) after.0 (least (filter_map (λ p. topic_of p after) ps))
 lowest-least [] after = λ h b. refl
 lowest-least (p ∷ ps) after =
     let hs = filter_map (λ q. topic_of q after) ps in
-    subst (Lowest (map_of (p ∷ ps)) after.0) (sym (least-cons (topic_of p after) hs)) (lowest-with p.held (map_of ps) after (least hs) (lowest-least ps after))
+    subst (Lowest (map_of (p ∷ ps)) after.0) (sym (least-cons (topic_of p after) hs)) (lowest-with p.held p.value (map_of ps) after (least hs) (lowest-least ps after))
 
 -- the lower of each two, from the first on
 pub lowest-min : (f : Handle → Handle → Handle) → PicksLower f → (ps : List Place) (after : Handle)

@@ -1,6 +1,7 @@
 -- Why a table is a store: its map is sound and no larger than the table, which has room for two keys.
-use Rattle.std.specs.Prelude.{◌≡◌, suc, ◌≤◌, true, false, List, [], ◌∷◌, length, Some, None, Option}
+use Rattle.std.specs.Prelude.{◌≡◌, ℕ, suc, ◌≤◌, true, false, List, [], ◌∷◌, length, take, Some, None, Option}
 use Rattle.std.proofs.Common.{arith}
+use Rattle.std.proofs.lemmas.List.{length-take}
 use Rattle.std.proofs.lemmas.Bool.Decides.{nat_tests}
 use Rattle.std.specs.Option.{option_map_or}
 use Rattle.store.specs.Held.{Entry as MapEntry, value_limit, proper, Sound}
@@ -18,29 +19,40 @@ pub record Tidy (p : Place) (ps : List Place) : Type 0 where
 pub tidy-parts : (p : Place) (ps : List Place) → tidy (p ∷ ps) ≡ true → Tidy p ps
 tidy-parts p ps t = record { first = grind (arith, nat_tests); alone = grind (arith, nat_tests); rest = grind (arith, nat_tests) }
 
+-- the parts of a place that is well
+pub record Well (p : Place) : Type 0 where
+  pub room : length p.value ≡ value_limit
+  pub entry : option_map_or fits p.held true ≡ true
+
+pub well-parts : (p : Place) → well p ≡ true → Well p
+well-parts p w = record { room = grind (arith, nat_tests); entry = grind (arith, nat_tests) }
+
 -- the parts of an entry that fits
 pub record Fits (e : Entry) : Type 0 where
   pub key : proper e.key ≡ true
-  pub len : length e.value.items ≤ value_limit
+  pub len : e.len ≤ value_limit
 
 pub fits-parts : (e : Entry) → fits e ≡ true → Fits e
 fits-parts e f = record { key = grind (arith, nat_tests); len = grind (arith, nat_tests) }
 
 -- a sound map with an entry that fits is sound
-pub sound-with : (o : Option Entry) (es : List MapEntry) → option_map_or fits o true ≡ true → Sound es → Sound (with_entry o es)
-sound-with None es f s = s
-sound-with (Some e) es f s = let p = fits-parts e f in sound-put es e.key e.value.items p.key p.len s
+pub sound-with : (o : Option Entry) (bytes : List ℕ) (es : List MapEntry) → option_map_or fits o true ≡ true → Sound es → Sound (with_entry o bytes es)
+sound-with None bytes es f s = s
+sound-with (Some e) bytes es f s =
+    let p = fits-parts e f in
+    sound-put es e.key (take e.len bytes) p.key (let l = p.len in simp length-take (omega arith)) s
 
 -- the map of a tidy table is sound
 pub sound-map : (ps : List Place) → tidy ps ≡ true → Sound (map_of ps)
 sound-map [] t = tt
-sound-map (p ∷ ps) t = let q = tidy-parts p ps t in sound-with p.held (map_of ps) q.first (sound-map ps q.rest)
+sound-map (p ∷ ps) t = let q = tidy-parts p ps t in sound-with p.held p.value (map_of ps) (well-parts p q.first).entry (sound-map ps q.rest)
 
 -- an entry that fits makes a sound map longer by one at most
-pub length-with_le : (o : Option Entry) (es : List MapEntry) → option_map_or fits o true ≡ true → Sound es → length (with_entry o es) ≤ suc (length es)
-length-with_le None es f s = omega arith
-length-with_le (Some e) es f s =
-    let l = length-put es e.key e.value.items (fits-parts e f).key s in
+pub length-with_le : (o : Option Entry) (bytes : List ℕ) (es : List MapEntry) → option_map_or fits o true ≡ true → Sound es
+    → length (with_entry o bytes es) ≤ suc (length es)
+length-with_le None bytes es f s = omega arith
+length-with_le (Some e) bytes es f s =
+    let l = length-put es e.key (take e.len bytes) (fits-parts e f).key s in
     grind (arith, nat_tests)
 
 -- it has no more keys than the table has places
@@ -49,7 +61,7 @@ length-map_le [] t = omega arith
 length-map_le (p ∷ ps) t =
     let q = tidy-parts p ps t in
     let ih = length-map_le ps q.rest in
-    let l = length-with_le p.held (map_of ps) q.first (sound-map ps q.rest) in
+    let l = length-with_le p.held p.value (map_of ps) (well-parts p q.first).entry (sound-map ps q.rest) in
     omega arith
 
 -- a table has room for two keys

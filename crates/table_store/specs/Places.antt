@@ -1,5 +1,5 @@
 -- What the places of a table mean: the map of those that are held.
-use Rattle.std.specs.Prelude.{◌≡◌, ℕ, ◌+◌, ◌<◌, Bool, true, false, not, ◌&&◌, List, [], ◌∷◌, length, take, drop, is_some, None, Some, Option, nat_le, slice_index_or}
+use Rattle.std.specs.Prelude.{◌≡◌, ℕ, ◌+◌, ◌<◌, Bool, true, false, not, ◌&&◌, List, [], ◌∷◌, ◌++◌, length, take, drop, is_some, None, Some, Option, ◌==◌, nat_le, slice_index_or}
 use Rattle.std.specs.List.{list_all, list_any}
 use Rattle.std.specs.Option.{option_and_then, option_map, option_map_or}
 use Rattle.protocol.specs.declared.names.Handle.{Handle}
@@ -11,25 +11,33 @@ use Rattle.table_store.specs.declared.place.Place.{Place}
 
 -- the entry of a key and a value
 abbrev pub kept : Key → List ℕ → Entry
-kept k v = record { key = k; value = record { items = v } }
+kept k v = record { key = k; len = length v }
 
--- the entry has a proper key and a value within the limit
+-- the entry has a proper key and a length within the limit
 abbrev pub fits : Entry → Bool
-fits e = proper e.key && nat_le (length e.value.items) value_limit
+fits e = proper e.key && nat_le e.len value_limit
 
--- the value of a place that is held
+-- the place held by the entry with the value in front; the bytes behind it stay
+abbrev pub filled : Place → Entry → List ℕ → Place
+filled p e v = record { held = Some e; value = v ++ drop (length v) p.value }
+
+-- the place free, its bytes as they were
+abbrev pub freed : Place → Place
+freed p = record { held = None; value = p.value }
+
+-- the value of a place that is held: the bytes in front, as many as the entry's length says
 abbrev pub value_of : Place → Option (List ℕ)
-value_of p = option_map (λ (e : Entry). e.value.items) p.held
+value_of p = option_map (λ (e : Entry). take e.len p.value) p.held
 
--- the map and an entry, if there is one
-abbrev pub with_entry : Option Entry → List MapEntry → List MapEntry
-with_entry None es = es
-with_entry (Some e) es = put es e.key e.value.items
+-- the map and an entry, if there is one, with the bytes that its value stands in front of
+abbrev pub with_entry : Option Entry → List ℕ → List MapEntry → List MapEntry
+with_entry None bytes es = es
+with_entry (Some e) bytes es = put es e.key (take e.len bytes)
 
 -- the map of the places that are held
 abbrev pub map_of : List Place → List MapEntry
 map_of [] = []
-map_of (p ∷ ps) = with_entry p.held (map_of ps)
+map_of (p ∷ ps) = with_entry p.held p.value (map_of ps)
 
 -- the place is held for the key
 abbrev pub holds : Place → Key → Bool
@@ -47,9 +55,9 @@ some_holds ps k = list_any (λ p. holds p k) ps
 abbrev pub all_held : List Place → Bool
 all_held ps = list_all (λ (p : Place). is_some p.held) ps
 
--- the entry of the place, if there is one, has a proper key and a value within the limit
+-- the place has room for the largest value and, where it is held, its entry has a proper key and a length within the limit
 abbrev pub well : Place → Bool
-well p = option_map_or fits p.held true
+well p = length p.value == value_limit && option_map_or fits p.held true
 
 -- each place is well, and no key has two
 abbrev pub tidy : List Place → Bool

@@ -7,9 +7,8 @@ ghost use Rattle.table_store.specs.Places.{map_of};
 
 use crate::entry::Entry;
 use crate::place::Place;
-use crate::table::TableStore;
+use crate::table::{PLACES, TableStore};
 use protocol::{Handle, Refusal};
-use std::array;
 use store::{Key, Store, VALUE_LIMIT};
 
 impl TableStore {
@@ -18,7 +17,7 @@ impl TableStore {
         ensures { table_held result ≡ [] }
     {
         TableStore {
-            places: array::from_fn(|_| Place { held: None }),
+            places: [Place::free(); PLACES],
         }
     }
 }
@@ -62,7 +61,7 @@ impl Store for TableStore {
     fn put(&mut self, key: Key, value: &[u8]) -> Result<(), Refusal> {
         let entry = Entry::new(key, value)?;
         let place = self.place_for(key).ok_or(Refusal::StoreFull)?;
-        self.places[place].held = Some(entry);
+        self.places[place].hold(entry, value);
         Ok(())
     }
 

@@ -1,16 +1,15 @@
-// An entry of the table: a key that the store accepts, and its value.
+// An entry of the table: a key that the store accepts, and how long its value is.
 ghost use Rattle.std.specs.Prelude.{◌≡◌, true, false, IfErr, IfOk};
 ghost use Rattle.protocol.specs.declared.refusal.Refusal.TheVariants.{BadStoreRequest};
 ghost use Rattle.table_store.specs.Places.{fits, kept};
 
-use arrayvec::ArrayVec;
 use protocol::Refusal;
 use store::{Key, VALUE_LIMIT};
 
-#[derive(Drop)]
+#[derive(Clone, Copy)]
 pub(crate) struct Entry {
     pub(crate) key: Key,
-    pub(crate) value: ArrayVec<u8, VALUE_LIMIT>,
+    pub(crate) len: usize,
 }
 
 impl Entry {
@@ -20,7 +19,12 @@ impl Entry {
         ensures err { IfErr result (λ r. (r ≡ BadStoreRequest) × (fits (kept key bytes.now) ≡ false)) }
     {
         key.check()?;
-        let value = ArrayVec::try_from(bytes).map_err(|_| Refusal::BadStoreRequest)?;
-        Ok(Entry { key, value })
+        if bytes.len() > VALUE_LIMIT {
+            return Err(Refusal::BadStoreRequest);
+        }
+        Ok(Entry {
+            key,
+            len: bytes.len(),
+        })
     }
 }

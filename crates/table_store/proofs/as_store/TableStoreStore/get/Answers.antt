@@ -1,8 +1,18 @@
-use Rattle.std.proofs.Common.{Ok, sym, ap, ◌∙◌}
+use Rattle.std.proofs.Common.{Ok, get_or, sym, ap, ◌∙◌}
 use Rattle.store.proofs.Replies.{get_answers, get_fills}
+use Rattle.table_store.specs.Laws.{well-parts}
 use Rattle.table_store.specs.Places.{holds, map_of}
 use Rattle.table_store.proofs.Finds.{found, look_found, look_nowhere}
+use Rattle.table_store.proofs.Tables.{any_place, len_fits, well_at}
 use Rattle.table_store.proofs.as_store.TableStoreStore.get.Goals as goal
+
+pub copy_to-requires : goal.copy_to-requires
+copy_to-requires c =
+    let s = c.args.self.now in
+    let f = found (λ q. holds q c.args.key) s.places c.in-Some.i (sym c.in-Some.ensures) in
+    let p = get_or s.places c.in-Some.i any_place in
+    let w = well-parts p (well_at s.places c.in-Some.i any_place s.tidy f.inside) in
+    (len_fits p.held w.entry, w.room, c.if-out-lt-VALUE_LIMIT.false)
 
 pub returns-in-Some : goal.returns-in-Some
 returns-in-Some c =

@@ -4,7 +4,7 @@ use Rattle.store.proofs.Maps.{remove_absent}
 use Rattle.store.proofs.Replies.{remove_answers}
 use Rattle.table_store.specs.Places.{holds, map_of}
 use Rattle.table_store.proofs.Finds.{fit-found, found, look_nowhere, somewhere}
-use Rattle.table_store.proofs.Tables.{freed, look_some}
+use Rattle.table_store.proofs.Tables.{any_place, look_some}
 use Rattle.table_store.proofs.Writes.{map-remove, tidy-remove}
 use Rattle.table_store.proofs.as_store.TableStoreStore.remove.Goals as goal
 
@@ -13,8 +13,8 @@ invariant_of-self c =
     let s = c.args.self.now in
     let f = found (λ p. holds p c.args.key) s.places c.in-Some.i (sym c.in-Some.ensures) in
     record {
-      count = length-set s.places c.in-Some.i freed ∙ s.count;
-      tidy = tidy-remove s.places c.in-Some.i s.tidy f.inside;
+      count = length-set s.places c.in-Some.i _ ∙ s.count;
+      tidy = tidy-remove s.places c.in-Some.i _ s.tidy f.inside;
     }
 
 pub returns-in-Some : goal.returns-in-Some
@@ -22,8 +22,8 @@ returns-in-Some c =
     let s = c.args.self.now in
     let f = found (λ p. holds p c.args.key) s.places c.in-Some.i (sym c.in-Some.ensures) in
     record {
-      answer = sym (remove_answers (map_of s.places) c.args.key true (sym c.in_ok-check.ensures.ok) (look_some s.places c.args.key ∙ somewhere _ s.places c.in-Some.i freed f));
-      after = map-remove s.places c.args.key c.in-Some.i s.tidy (fit-found s.places c.args.key c.in-Some.i s.tidy f);
+      answer = sym (remove_answers (map_of s.places) c.args.key true (sym c.in_ok-check.ensures.ok) (look_some s.places c.args.key ∙ somewhere _ s.places c.in-Some.i any_place f));
+      after = map-remove s.places c.args.key c.in-Some.i _ s.tidy (fit-found s.places c.args.key c.in-Some.i s.tidy f);
       capacity = refl;
     }
 
