@@ -1,5 +1,5 @@
 // A ring: a queue in places that the caller lends, which goes on at their front when it has come to their end.
-ghost use Rattle.std.specs.Prelude.{◌≡◌, ◌+◌, ◌^◌, ◌<◌, true, false, [], ◌∷◌, ◌++◌, length, drop, nat_lt, option_copied, slice_get};
+ghost use Rattle.std.specs.Prelude.{◌≡◌, ◌+◌, ◌^◌, ◌<◌, ◌≤◌, true, false, [], ◌∷◌, ◌++◌, length, drop, nat_lt, option_copied, slice_get};
 ghost use Rattle.outbox.specs.Rings.{place};
 
 use std::marker::Model;
@@ -110,6 +110,7 @@ impl<'a, T> Ring<'a, T> {
         ensures room { result ≡ nat_lt (length self.old.items) self.old.capacity }
         ensures items { result ≡ true → (before : T) × (after : T) × F.fills item.now before after × (self.new.items ≡ self.old.items ++ after ∷ []) }
         ensures same { result ≡ false → self.new ≡ self.old }
+        ensures within { length self.new.items ≤ self.new.capacity }
         ensures len { length self.new.items < 2 ^ 64 }
         ensures capacity { self.new.capacity ≡ self.old.capacity }
     {
