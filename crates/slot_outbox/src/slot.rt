@@ -15,15 +15,6 @@ pub struct Slot<C> {
 }
 
 impl<C: Client> Slot<C> {
-    // Puts a message in; of its payload the first 256 bytes are kept.
-    pub(crate) fn set(&mut self, subscriber: Subscriber<C>, content: Content, payload: &[u8])
-        ensures { note_in C.Client.identity self.new ≡ record { to = sub_of C.Client.identity subscriber; content = content; payload = take 256 payload.now } }
-    {
-        self.subscriber = subscriber;
-        self.content = content;
-        self.payload.set(payload);
-    }
-
     // Writes the message's payload to the front of the buffer, and gives the rest of it.
     pub(crate) fn read(&self, out: &mut [u8]) -> Message<C>
         requires { 256 ≤ length out.old }
@@ -37,7 +28,7 @@ impl<C: Client> Slot<C> {
     }
 }
 
-// A message as it is put into a slot.
+// A message as it is put into a slot; of its payload the first 256 bytes are kept.
 #[derive(Clone, Copy)]
 pub(crate) struct Sent<'a, C> {
     pub(crate) subscriber: Subscriber<C>,
@@ -49,6 +40,8 @@ impl<C: Client> Fill<Slot<C>> for Sent<'_, C> {
     ghost fills = { λ s _ after. note_in C.Client.identity after ≡ record { to = sub_of C.Client.identity s.subscriber; content = s.content; payload = take 256 s.payload.now } };
 
     fn fill(&self, place: &mut Slot<C>) {
-        place.set(self.subscriber, self.content, self.payload);
+        place.subscriber = self.subscriber;
+        place.content = self.content;
+        place.payload.set(self.payload);
     }
 }
