@@ -12,9 +12,13 @@ use Rattle.store.proofs.Maps.{key-is, same_key_refl, same_key_like, look-put, lo
 use Rattle.store.proofs.Replies.{put_answers, put_full}
 use Rattle.table_store.specs.declared.entry.Entry.{Entry}
 use Rattle.table_store.specs.declared.place.Place.{Place}
-use Rattle.table_store.specs.Places.{Fit, all_held, filled, fits, freed, holds, kept, map_of, some_holds, tidy, well}
+use Rattle.table_store.specs.Places.{Fit, all_held, filled, fits, holds, kept, map_of, some_holds, tidy, well}
 use Rattle.table_store.specs.Laws.{fits-parts, sound-map, tidy-parts, well-parts}
 use Rattle.table_store.proofs.Tables.{around, full_for, look-place, look_none, tidy_from, well_at}
+
+-- the place free, its bytes as they were
+abbrev pub freed : Place → Place
+freed p = record { held = None; value = p.value }
 
 replaced : (ps : List Place) (i : ℕ) (q : Place) → i < length ps → set ps i q ≡ take i ps ++ q ∷ drop (i + 1) ps
 replaced ps i q l = set_split ps i q l ∙ simp add-one

@@ -1,7 +1,8 @@
 -- What the places of a table mean: the map of those that are held.
-use Rattle.std.specs.Prelude.{◌≡◌, ℕ, ◌+◌, ◌<◌, Bool, true, false, not, ◌&&◌, List, [], ◌∷◌, ◌++◌, length, take, drop, is_some, None, Some, Option, ◌==◌, nat_le, slice_index_or}
+use Rattle.std.specs.Prelude.{◌≡◌, ℕ, ◌+◌, ◌<◌, Bool, true, false, not, ◌&&◌, List, [], ◌∷◌, length, take, drop, is_some, None, Some, Option, ◌==◌, nat_le, slice_index_or}
 use Rattle.std.specs.List.{list_all, list_any}
 use Rattle.std.specs.Option.{option_and_then, option_map, option_map_or}
+use Rattle.protocol.specs.Buffers.{laid}
 use Rattle.protocol.specs.declared.names.Handle.{Handle}
 use Rattle.store.specs.declared.key.Key.{Key}
 use Rattle.store.specs.Held.{Entry as MapEntry, proper, put, same_key, value_limit}
@@ -19,11 +20,7 @@ fits e = proper e.key && nat_le e.len value_limit
 
 -- the place held by the entry with the value in front; the bytes behind it stay
 abbrev pub filled : Place → Entry → List ℕ → Place
-filled p e v = record { held = Some e; value = v ++ drop (length v) p.value }
-
--- the place free, its bytes as they were
-abbrev pub freed : Place → Place
-freed p = record { held = None; value = p.value }
+filled p e v = record { held = Some e; value = laid v p.value }
 
 -- the value of a place that is held: the bytes in front, as many as the entry's length says
 abbrev pub value_of : Place → Option (List ℕ)

@@ -31,7 +31,7 @@ impl Place {
     pub(crate) fn is_held_for(&self, key: Key) -> bool
         ensures { result ≡ holds self.now key }
     {
-        // The handle first, which differs for most keys: the derived `==` asks for the part first.
+        // The handle first, which differs for most keys: the derived `==` is compiled to ask for the part first.
         self.held.as_ref().is_some_and(|entry| entry.key.handle == key.handle
             && entry.key.part == key.part)
     }
