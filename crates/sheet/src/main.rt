@@ -1,7 +1,7 @@
 // Reads an installer's sheet of property maps, keeps the good ones in a store, and prints what became of each.
 #![tactic(auto)]
 
-ghost use Rattle.std.specs.Prelude.{◌≡◌, false, length, nat_le};
+ghost use Rattle.std.specs.Prelude.{◌≡◌, false, length, is_ok, nat_le};
 
 mod keeping;
 mod lines;
@@ -56,6 +56,7 @@ impl Work for Sheet<'_> {
 
 // The sheet, read into a log store in these bytes; too few are refused, and stay as they were.
 fn in_log(rt: &HostRuntime, text: &str, bytes: &mut [u8]) -> anyhow::Result<()>
+    ensures refused { nat_le 1166 (length bytes.old) ≡ false → is_ok result ≡ false }
     ensures same { nat_le 1166 (length bytes.old) ≡ false → bytes.new ≡ bytes.old }
 {
     with_log(bytes, Sheet { rt, text }).map_err(Told)?
