@@ -1,5 +1,6 @@
 // A ring: a queue in places that the caller lends, which goes on at their front when it has come to their end.
 ghost use Rattle.std.specs.Prelude.{◌≡◌, ◌+◌, ◌^◌, ◌<◌, ◌≤◌, true, false, [], ◌∷◌, ◌++◌, length, drop, nat_lt, option_copied, slice_get};
+ghost use Rattle.std.specs.Fn.{FnOnceReturnsAtMut};
 ghost use Rattle.outbox.specs.Rings.{place};
 
 use std::marker::Model;
@@ -106,7 +107,7 @@ impl<'a, T> Ring<'a, T> {
     }
 
     // Puts an item behind the last, written to its place, and tells whether there was one; where there is none, nothing changes.
-    pub fn push_with<F: Fill<T>>(&mut self, item: &F) -> bool
+    pub fn push<F: Fill<T>>(&mut self, item: &F) -> bool
         ensures room { result ≡ nat_lt (length self.old.items) self.old.capacity }
         ensures items { result ≡ true → (before : T) × (after : T) × F.fills item.now before after × (self.new.items ≡ self.old.items ++ after ∷ []) }
         ensures same { result ≡ false → self.new ≡ self.old }
@@ -121,5 +122,20 @@ impl<'a, T> Ring<'a, T> {
         item.fill(&mut self.places[at]);
         self.len += 1;
         true
+    }
+
+    // Puts an item behind the last, by a closure that writes to its place, in which still lies what was there before.
+    // Its two premises are what a closure costs: `push` has none.
+    pub fn push_with<F: FnOnce(&mut T)>(&mut self, write: F)
+        requires room { length self.old.items < self.old.capacity }
+        requires call { F.IsAlwaysCallable write }
+        ensures items { (before : T) × (after : T) × FnOnceReturnsAtMut F.FnOnce write before tt after × (self.new.items ≡ self.old.items ++ after ∷ []) }
+        ensures len { length self.new.items < 2 ^ 64 }
+        ensures capacity { self.new.capacity ≡ self.old.capacity }
+    {
+        let capacity = self.capacity();
+        let at = place_of(self.start, self.len, capacity);
+        write(&mut self.places[at]);
+        self.len += 1;
     }
 }

@@ -80,11 +80,36 @@ fn a_ring_takes_as_many_as_it_has_places(rt: HostRuntime) -> Result<(), Fail> {
     let item = entry()?;
     let mut places = [item; 2];
     let mut ring = Ring::new(&mut places);
-    assert!(rt; ring.push_with(&item));
-    assert!(rt; ring.push_with(&item));
-    assert!(rt; !ring.push_with(&item));
+    assert!(rt; ring.push(&item));
+    assert!(rt; ring.push(&item));
+    assert!(rt; !ring.push(&item));
     assert_eq!(rt; ring.free(), 0);
     ring.drop_first();
-    assert!(rt; ring.push_with(&item));
+    assert!(rt; ring.push(&item));
+    Ok(())
+}
+
+// What is neither `Copy` nor `Clone`, so that a ring gets it only by a closure that gives it away.
+#[derive(Drop, Debug, PartialEq)]
+struct Owned {
+    number: u32,
+}
+
+#[test]
+fn a_closure_moves_its_own_into_a_ring(rt: HostRuntime) -> Result<(), Fail> {
+    let mut places = [Owned { number: 1 }, Owned { number: 2 }];
+    let mut ring = Ring::new(&mut places);
+    let (third, fourth, fifth) = (
+        Owned { number: 3 },
+        Owned { number: 4 },
+        Owned { number: 5 },
+    );
+    ring.push_with(|place| *place = third);
+    ring.push_with(|place| *place = fourth);
+    ring.drop_first();
+    ring.push_with(|place| *place = fifth);
+    assert_eq!(rt; ring.first(), Some(&Owned { number: 4 }));
+    assert_eq!(rt; ring.get(1), Some(&Owned { number: 5 }));
+    assert_eq!(rt; ring.free(), 0);
     Ok(())
 }

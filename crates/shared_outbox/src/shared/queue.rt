@@ -55,7 +55,7 @@ impl<'a, C: Client> Shared<'a, C> {
         ensures capacity { capacity_of self.new ≡ capacity_of self.old }
     {
         let next = Entry { subscriber, place };
-        self.entries.push_with(&next);
+        self.entries.push(&next);
         self.places.claim(place);
     }
 }

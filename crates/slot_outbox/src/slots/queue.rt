@@ -42,7 +42,7 @@ impl<'a, C: Client> Slots<'a, C> {
         ensures len { length (held self.new) ≡ length (held self.old) + 1 }
         ensures capacity { capacity_of self.new ≡ capacity_of self.old }
     {
-        self.ring.push_with(&Sent {
+        self.ring.push(&Sent {
             subscriber,
             content,
             payload,

@@ -11,7 +11,7 @@ returns-clause-after g c =
     let id = g.C.Client.identity in
     let q = c.args.self.now in
     let bytes = c.args.payload.now in
-    let pushed = c.push_with.ensures.items (c.push_with.ensures.room ∙ lt-ltb _ _ c.requires.room) in
+    let pushed = c.push.ensures.items (c.push.ensures.room ∙ lt-ltb _ _ c.requires.room) in
     let wrote : note_in id pushed.1 ≡ record { to = sub_of id c.args.subscriber; content = c.args.content; payload = take 256 bytes } = search rules in
     ap (map (note_in id)) pushed.3
     ∙ map_push (note_in id) (held q) pushed.1
