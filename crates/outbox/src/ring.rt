@@ -124,8 +124,8 @@ impl<'a, T> Ring<'a, T> {
         true
     }
 
-    // Puts an item behind the last, by a closure that writes to its place, in which still lies what was there before.
-    // Its two premises are what a closure costs: `push` has none.
+    // Puts an item behind the last, by a closure that writes to its place: so a caller can give away what it owns.
+    // It asks for a place, and that the closure may be called; `push` asks nothing.
     pub fn push_with<F: FnOnce(&mut T)>(&mut self, write: F)
         requires room { length self.old.items < self.old.capacity }
         requires call { F.IsAlwaysCallable write }
