@@ -1,5 +1,5 @@
 -- Bytes that are counted, and the laws of counting.
-use Rattle.std.specs.Prelude.{◌≡◌, ℕ, ◌+◌, ◌%◌, ◌^◌, ◌<◌, List, length}
+use Rattle.std.specs.Prelude.{◌≡◌, ℕ, ◌+◌, ◌-◌, ◌^◌, min, ◌<◌, List, length}
 use Rattle.std.proofs.Common.{arith, length-append}
 use Rattle.map_writer.specs.declared.count.Counter.{Counter}
 use Rattle.map_writer.specs.Sinks.{SinkLaws}
@@ -8,12 +8,12 @@ use Rattle.map_writer.specs.Sinks.{SinkLaws}
 abbrev pub CanCount : Counter → List ℕ → Type 0
 CanCount c bytes = c.len < 2 ^ 128
 
--- these bytes were counted, in 128 bits
+-- these bytes were counted, up to the largest number of 128 bits
 abbrev pub Counted : Counter → List ℕ → Counter → Type 0
-Counted c bytes d = d.len ≡ (c.len + length bytes) % 2 ^ 128
+Counted c bytes d = d.len ≡ min (c.len + length bytes) (2 ^ 128 - 1)
 
 -- bytes are counted part by part as in one
-both_counted : (k m n : ℕ) → ((k + m) % 2 ^ 128 + n) % 2 ^ 128 ≡ (k + (m + n)) % 2 ^ 128
+both_counted : (k m n : ℕ) → min (min (k + m) (2 ^ 128 - 1) + n) (2 ^ 128 - 1) ≡ min (k + (m + n)) (2 ^ 128 - 1)
 both_counted k m n = omega arith
 
 pub counter_laws : SinkLaws CanCount Counted

@@ -15,7 +15,7 @@ impl Sink for Counter {
     ghost Takes = { Counted };
 
     fn put(&mut self, bytes: &[u8]) {
-        self.len = self.len.wrapping_add(bytes.len() as u128);
+        self.len = self.len.saturating_add(bytes.len() as u128);
     }
 
     ghost laws = { counter_laws };

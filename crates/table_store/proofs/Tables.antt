@@ -1,8 +1,10 @@
 -- Laws of the places of a table: look-ups in their map, and when it is full.
-use Rattle.std.proofs.Common.{◌≡◌, ℕ, zero, suc, ◌+◌, ◌<◌, ◌≤◌, Bool, true, false, cond, not, ◌&&◌, ◌||◌, leb, List, [], ◌∷◌, ◌++◌, length, replicate, take, drop, is_some, IfSome, Some, None, Option, refl, sym, ap, ◌∙◌, add-one, arith}
+use Rattle.std.proofs.Common.{◌≡◌, ℕ, ◌+◌, ◌<◌, ◌≤◌, Bool, true, false, cond, not, ◌&&◌, ◌||◌, leb, List, [], ◌∷◌, ◌++◌, length, take, drop, is_some, IfSome, Some, None, Option, refl, sym, ap, ◌∙◌, add-one, arith}
+use Rattle.std.specs.List.{All}
 use Rattle.std.specs.Option.{option_map, option_map_or}
 use Rattle.std.specs.Prelude.{◌==◌, nat_le, slice_index_or}
 use Rattle.std.proofs.lemmas.List.{set_split, set-get_or}
+use Rattle.std.proofs.lemmas.List.Elements.{All-tail}
 use Rattle.std.proofs.lemmas.Bool.{cond-false, or_parts}
 use Rattle.std.proofs.lemmas.Bool.Decides.{nat_tests}
 use Rattle.store.specs.declared.key.Key.{Key}
@@ -95,17 +97,20 @@ pub len_fits : (o : Option Entry) → option_map_or fits o true ≡ true → IfS
 len_fits None f = tt
 len_fits (Some e) f = (fits-parts e f).len
 
--- a table of one free place, over and over
-pub map_empty : (n : ℕ) (p : Place) → p.held ≡ None → map_of (replicate n p) ≡ []
-map_empty zero p h = refl
-map_empty (suc n) p h = ap (λ o. with_entry o p.value (map_of (replicate n p))) h ∙ map_empty n p h
+-- a table of free places, whatever bytes lie in them
+pub map_empty : (ps : List Place) → All (λ (p : Place). p.held ≡ None) ps → map_of ps ≡ []
+map_empty [] a = refl
+map_empty (p ∷ ps) a =
+    ap (λ o. with_entry o p.value (map_of ps)) (a 0 p (omega arith)) ∙ map_empty ps (All-tail (λ (q : Place). q.held ≡ None) p ps a)
 
-pub tidy_empty : (n : ℕ) (p : Place) → p.held ≡ None → length p.value ≡ value_limit → tidy (replicate n p) ≡ true
-tidy_empty zero p h l = refl
-tidy_empty (suc n) p h l =
+pub tidy_empty : (ps : List Place) → All (λ (p : Place). p.held ≡ None) ps → All (λ (p : Place). length p.value ≡ value_limit) ps → tidy ps ≡ true
+tidy_empty [] a r = refl
+tidy_empty (p ∷ ps) a r =
+    let h : p.held ≡ None = a 0 p (omega arith) in
+    let l : length p.value ≡ value_limit = r 0 p (omega arith) in
     let w : well p ≡ true = ap (λ o. length p.value == value_limit && option_map_or fits o true) h ∙ ap (λ m. m == value_limit && true) l in
-    tidy_from p (replicate n p) (record {
+    tidy_from p ps (record {
       first = w;
-      alone = ap (λ o. option_map_or (λ (e : Entry). some_holds (replicate n p) e.key) o false) h;
-      rest = tidy_empty n p h l;
+      alone = ap (λ o. option_map_or (λ (e : Entry). some_holds ps e.key) o false) h;
+      rest = tidy_empty ps (All-tail (λ (q : Place). q.held ≡ None) p ps a) (All-tail (λ (q : Place). length q.value ≡ value_limit) p ps r);
     })
