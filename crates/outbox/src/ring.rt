@@ -124,7 +124,7 @@ impl<'a, T> Ring<'a, T> {
         true
     }
 
-    // Puts an item behind the last, by a closure that writes to its place: so a caller can give away what it owns.
+    // Puts an item behind the last, by a closure that writes to its place, in which still lies what was there before: so a caller can give away what it owns.
     // It asks for a place, and that the closure may be called; `push` asks nothing.
     pub fn push_with<F: FnOnce(&mut T)>(&mut self, write: F)
         requires room { length self.old.items < self.old.capacity }

@@ -89,7 +89,7 @@ fn a_ring_takes_as_many_as_it_has_places(rt: HostRuntime) -> Result<(), Fail> {
     Ok(())
 }
 
-// What is neither `Copy` nor `Clone`, so that a ring gets it only by a closure that gives it away.
+// What is neither `Copy` nor `Clone`, so that a caller hands over its own only by a closure that moves it.
 #[derive(Drop, Debug, PartialEq)]
 struct Owned {
     number: u32,
